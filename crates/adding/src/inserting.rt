@@ -12,7 +12,6 @@ ghost use Rattle.adding.specs.Putting.{Takes};
 
 use segment::Word;
 use tables::control::field;
-use tables::numbers::wide;
 use tables::places::{FIRST, LEAF_SIZE, NODE_COUNT, TRACE_COUNT};
 
 // A later trace. The answer is how many nodes there are then.
@@ -30,9 +29,9 @@ pub fn insert_more(
         (tables control.now samples.now nodes.old links.old [])
         (samples_of trace.now) }
 {
-    let k = wide(field(control, TRACE_COUNT));
-    let leaf_size = wide(field(control, LEAF_SIZE));
-    let count = wide(field(control, NODE_COUNT));
+    let k = usize::from(field(control, TRACE_COUNT));
+    let leaf_size = usize::from(field(control, LEAF_SIZE));
+    let count = usize::from(field(control, NODE_COUNT));
     let leaf = insertion::way::descend(nodes, count, trace);
     let head = tables::records::node_small(nodes, leaf, FIRST);
     insertion::lists::join(links, k, head);

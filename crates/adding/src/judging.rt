@@ -4,51 +4,38 @@
 ghost use Rattle.std.specs.Prelude.{◌≡◌};
 ghost use Rattle.dstree.specs.Labels.{Label};
 ghost use Rattle.dstree.specs.Refusals.{first_of};
-ghost use Rattle.tables.specs.Lent.{tables_before};
+ghost use Rattle.tables.specs.Shared.{tables_lent};
 ghost use Rattle.tables.specs.Answers.{found_by};
 ghost use Rattle.calls.specs.Effects.{adds};
 
-use segment::{Sample, Word};
+use segment::Sample;
+use tables::Refusal;
 use tables::control::field;
 use tables::given::are_samples;
+use tables::lent::Lent;
 use tables::numbers::wide;
 use tables::places::{CAPACITY, N, TRACE_COUNT};
-use tables::{Refusal, Verdict};
 use well_formed::judging::judge_tables;
 
 // Whatever the trace's label is.
-pub fn judge(
-    control: &[u16],
-    samples: &[Word],
-    nodes: &[i64],
-    links: &[u16],
-    work: &[u64],
-    labels: &[u64],
-    trace: &[Sample],
-) -> Verdict
-    ensures { (l : Label) → found_by result ≡ first_of (adds (tables_before control samples nodes links work labels)
-        trace.now l).conditions }
+pub fn judge(lent: Lent, trace: &[Sample]) -> Result<(), Refusal>
+    ensures { (l : Label) → found_by result ≡ first_of (adds (tables_lent lent.entry) trace.now l).conditions }
 {
-    let n = wide(field(control, N));
-    let capacity = field(control, CAPACITY);
-    let k = field(control, TRACE_COUNT);
-    let made = judge_tables(control, samples, nodes, links, work, labels);
-    match made {
-        Verdict::Refused(why) => Verdict::Refused(why),
-        Verdict::Fine => {
-            let wrong = trace.len() != n;
-            let full = k == capacity;
-            if wrong {
-                return Verdict::Refused(Refusal::WrongTrace);
-            }
-            let outside = !are_samples(trace);
-            if outside {
-                return Verdict::Refused(Refusal::SampleRange);
-            }
-            if full {
-                return Verdict::Refused(Refusal::Full);
-            }
-            Verdict::Fine
-        }
+    judge_tables(lent)?;
+    let n = wide(field(lent.control, N));
+    let capacity = field(lent.control, CAPACITY);
+    let k = field(lent.control, TRACE_COUNT);
+    let wrong = trace.len() != n;
+    let full = k == capacity;
+    if wrong {
+        return Err(Refusal::WrongTrace);
     }
+    let outside = !are_samples(trace);
+    if outside {
+        return Err(Refusal::SampleRange);
+    }
+    if full {
+        return Err(Refusal::Full);
+    }
+    Ok(())
 }

@@ -14,20 +14,15 @@ ghost use Rattle.calls.specs.Effects.{outcome_on};
 ghost use Rattle.adding.specs.Answered.{answer_by};
 
 use segment::{Sample, Word};
+use tables::Refusal;
 use tables::control::field;
 use tables::label_table::{place_of, store};
+use tables::lent::Lent;
 use tables::numbers::wider;
 use tables::places::TRACE_COUNT;
-use tables::{Refusal, Verdict};
-
-// The number of the trace, from 0, or a refusal.
-#[derive(Drop)]
-pub enum Added {
-    At(u64),
-    Refused(Refusal),
-}
 
 // Adds a trace with the label that a place of the table would hold: its low 16 bits are the fault code, the next 32 the machine serial.
+// Answers the number of the trace, from 0.
 // Every refusal is decided before anything is written. Search work is lent only to be long enough: it stays as it was.
 //
 // Two wrong programs that the contract rules out: one that splits a leaf as long as the leaf size, and one that refuses a full library
@@ -41,23 +36,26 @@ pub fn add_with(
     labels: &mut [u64],
     trace: &[Sample],
     place: u64,
-) -> Added
+) -> Result<u64, Refusal>
     ensures { outcome (answer_by result)
         (tables_after_adding control samples nodes links work labels)
         []
         ≡ outcome_on (adding trace.now (label_at place))
         (tables_before_adding control samples nodes links work labels) }
 {
-    let verdict = judging::judge(control, samples, nodes, links, work, labels, trace);
-    match verdict {
-        Verdict::Refused(why) => Added::Refused(why),
-        Verdict::Fine => {
-            let k = wider(field(control, TRACE_COUNT));
-            store(labels, k as usize, place);
-            putting::put_given(control, samples, nodes, links, trace);
-            Added::At(k)
-        }
-    }
+    let lent = Lent {
+        control,
+        samples,
+        nodes,
+        links,
+        work,
+        labels,
+    };
+    judging::judge(lent, trace)?;
+    let k = wider(field(control, TRACE_COUNT));
+    store(labels, k as usize, place);
+    putting::put_given(control, samples, nodes, links, trace);
+    Ok(k)
 }
 
 // Adds a trace whose label is zero: "zero from callers that give neither" code nor serial.
@@ -72,7 +70,7 @@ pub fn add(
     work: &[u64],
     labels: &mut [u64],
     trace: &[Sample],
-) -> Added
+) -> Result<u64, Refusal>
     ensures { outcome (answer_by result)
         (tables_after_adding control samples nodes links work labels)
         []
@@ -96,7 +94,7 @@ pub fn add_labelled(
     trace: &[Sample],
     code: u16,
     serial: u32,
-) -> Added
+) -> Result<u64, Refusal>
     ensures { outcome (answer_by result)
         (tables_after_adding control samples nodes links work labels)
         []

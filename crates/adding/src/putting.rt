@@ -9,7 +9,6 @@ ghost use Rattle.adding.specs.Putting.{Takes};
 use segment::{Sample, Word};
 use tables::control::field;
 use tables::given::words_of;
-use tables::numbers::wide;
 use tables::places::TRACE_COUNT;
 
 // Search work is not lent: it stays as it was, whatever it holds.
@@ -26,7 +25,7 @@ pub fn put(
         ≡ added_to (tables control.old samples.old nodes.old links.old work)
         (samples_of trace.now) }
 {
-    let k = wide(field(control, TRACE_COUNT));
+    let k = usize::from(field(control, TRACE_COUNT));
     let n = trace.len();
     let at = k * n;
     tables::loops::copy_trace(samples, at, trace);

@@ -1,29 +1,29 @@
-// The counts of the bands in the caller's list: two places a band, how many traces surely lie in it and how many may.
+// The counts of the bands in the caller's list: two places a band, how many traces surely lie in it and how many may. C lends it as numbers.
 ghost use Rattle.std.specs.Prelude.{◌≡◌, ℕ, ◌+◌, ◌*◌, ◌≤◌, ◌<◌, length, drop, leb, eqb, ◌&&◌, if◌then◌else◌};
 ghost use Rattle.dstree.specs.Bands.{most_edges};
 ghost use Rattle.dstree.specs.Measures.{most_nodes, most_traces};
 ghost use Rattle.band_counts.specs.Counted.{count_at, with_count, count_with, CountFits};
 
-use crate::edges::so_many;
-
 // What a leaf adds to the sure number of a band in which figures have reached `here` edges: both its own have.
 fn sure_more(by_bound: u64, by_upper: u64, here: u64, traces: u64) -> u64
     ensures { result ≡ (if eqb by_bound here && eqb by_upper here then traces else 0) }
 {
-    if by_bound != here {
-        return 0;
+    if by_bound == here && by_upper == here {
+        traces
+    } else {
+        0
     }
-    so_many(by_upper == here, traces)
 }
 
 // .. and to its possible number: its bound has reached no more, and its upper figure no fewer.
 fn possible_more(by_bound: u64, by_upper: u64, here: u64, traces: u64) -> u64
     ensures { result ≡ (if leb by_bound here && leb here by_upper then traces else 0) }
 {
-    if here < by_bound {
-        return 0;
+    if by_bound <= here && here <= by_upper {
+        traces
+    } else {
+        0
     }
-    so_many(here <= by_upper, traces)
 }
 
 // One band: a leaf with so many traces, whose bound and upper figure have reached so many edges.
@@ -52,9 +52,7 @@ pub fn count_leaf(list: &mut [u64], bands: usize, by_bound: u64, by_upper: u64, 
         ≡ count_with by_bound by_upper traces k (count_at list.old k) }
     ensures rest { drop (2 * bands) list.new ≡ drop (2 * bands) list.old }
 {
-    let mut band: usize = 0;
-    while band < bands {
+    for band in 0..bands {
         count_band(list, band, by_bound, by_upper, traces);
-        band += 1;
     }
 }

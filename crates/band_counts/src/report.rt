@@ -8,9 +8,9 @@ ghost use Rattle.tables.specs.Tables.{measures_of, filled};
 ghost use Rattle.tables.specs.View.{tree_in};
 ghost use Rattle.band_counts.specs.Reported.{records_only, Reportable};
 
+use prefixes::Summed;
 use segment::Word;
 use tables::control::field;
-use tables::numbers::{wide, wider};
 use tables::places::{CAPACITY, NODE_COUNT, TRACE_COUNT};
 
 // The list begins with the report, and its places behind that stay. The needed places of search work are zero when it ends, whatever they
@@ -33,23 +33,19 @@ pub fn report(
         ≡ filled (work_needed (measures_of (records_only control.now nodes.now links.now))) 0
         work.old }
 {
-    let mut sums: [i64; 257] = [0; 257];
-    let mut squares: [u64; 257] = [0; 257];
-    prefixes::prefix_sums(query, &mut sums, &mut squares);
-    let k = wide(field(control, TRACE_COUNT));
-    let m = wide(field(control, NODE_COUNT));
-    let needed = tables::control::records_needed(wider(field(control, CAPACITY)));
+    let summed = Summed::of(query);
+    let k = usize::from(field(control, TRACE_COUNT));
+    let m = usize::from(field(control, NODE_COUNT));
+    let needed = tables::control::records_needed(u64::from(field(control, CAPACITY)));
     crate::nodes::count_nodes(
         nodes,
         links,
         k,
         m,
-        query,
-        &sums,
-        &squares,
+        &summed,
         edges,
         &mut work[..needed],
         list,
     );
-    tables::loops::zero_work(work, needed);
+    tables::loops::fill_first(work, needed, 0);
 }

@@ -20,7 +20,7 @@ use Rattle.calls.specs.Outcome.{outcome}
 use Rattle.calls.specs.Effects.{bands, effect_of, outcome_on}
 use Rattle.calls.proofs.Ends.{ends_done}
 use Rattle.banding.specs.Answered.{answer_by}
-use Rattle.banding.specs.declared.Banded.TheVariants as b
+use Rattle.std.specs.Prelude.{Ok}
 
 module _ (control : List ℕ) (samples nodes : List ℤ) (links work labels : List ℕ) (query : Trace) (edges list work' list' : List ℕ) where
   abbrev lent : Tables
@@ -42,7 +42,7 @@ module _ (control : List ℕ) (samples nodes : List ℤ) (links work labels : Li
         ∙ (ap (counts_in (length report)) places ∙ counts_in_lem report (drop (length (report_places report)) list))
 
     pub band_answer : first_of (bands lent query edges list).conditions ≡ none
-        → outcome (answer_by b.Reported (length edges - 1) list') (labelled_tables control samples nodes links work' labels) (list' ∷ [])
+        → outcome (answer_by (Ok tt) (length edges - 1) list') (labelled_tables control samples nodes links work' labels) (list' ∷ [])
         ≡ outcome_on (book.banding query edges list) lent
     unfolding answer_by outcome_on effect_of beside_of
     band_answer e =

@@ -6,16 +6,17 @@ ghost use Rattle.dstree.specs.Bands.{is_edges, band_conditions};
 ghost use Rattle.dstree.specs.Refusals.{first_of};
 ghost use Rattle.tables.specs.Layout.{n_place};
 ghost use Rattle.tables.specs.Tables as t;
-ghost use Rattle.tables.specs.Lent.{tables_before};
+ghost use Rattle.tables.specs.Shared.{tables_lent};
 ghost use Rattle.tables.specs.Answers.{found_by};
 ghost use Rattle.calls.specs.Effects.{bands};
 
-use segment::{Sample, Word};
+use segment::Sample;
+use tables::Refusal;
 use tables::control::field;
 use tables::given::are_samples;
+use tables::lent::Lent;
 use tables::numbers::wide;
 use tables::places::N;
-use tables::{Refusal, Verdict};
 use well_formed::judging::judge_tables;
 
 // 2 to 16 edges, each above the last. Equal ones do not rise.
@@ -28,59 +29,44 @@ fn are_edges(edges: &[u64]) -> bool
     if 16 < edges.len() {
         return false;
     }
-    let mut i: usize = 1;
-    while i < edges.len() {
+    for i in 1..edges.len() {
         if edges[i] <= edges[i - 1] {
             return false;
         }
-        i += 1;
     }
     true
 }
 
 // A query of another length than a trace (4), a sample outside the limits (15), bad edges (16), a list with fewer than two places for each
 // band (7).
-fn judge_own(control: &[u16], query: &[Sample], edges: &[u64], list: &[u64]) -> Verdict
+fn judge_own(control: &[u16], query: &[Sample], edges: &[u64], list: &[u64]) -> Result<(), Refusal>
     ensures { found_by result ≡ first_of (band_conditions (t.field control.now n_place) query.now
         edges.now list.now) }
 {
     let n = wide(field(control, N));
     let wrong = query.len() != n;
     if wrong {
-        return Verdict::Refused(Refusal::WrongTrace);
+        return Err(Refusal::WrongTrace);
     }
     let outside = !are_samples(query);
     if outside {
-        return Verdict::Refused(Refusal::SampleRange);
+        return Err(Refusal::SampleRange);
     }
     let bad = !are_edges(edges);
     if bad {
-        return Verdict::Refused(Refusal::BadEdges);
+        return Err(Refusal::BadEdges);
     }
     if list.len() < 2 * (edges.len() - 1) {
-        return Verdict::Refused(Refusal::ShortTrail);
+        return Err(Refusal::ShortTrail);
     }
-    Verdict::Fine
+    Ok(())
 }
 
-pub fn judge(
-    control: &[u16],
-    samples: &[Word],
-    nodes: &[i64],
-    links: &[u16],
-    work: &[u64],
-    labels: &[u64],
-    query: &[Sample],
-    edges: &[u64],
-    list: &[u64],
-) -> Verdict
+pub fn judge(lent: Lent, query: &[Sample], edges: &[u64], list: &[u64]) -> Result<(), Refusal>
     ensures { found_by result ≡ first_of (bands
-        (tables_before control samples nodes links work labels)
+        (tables_lent lent.entry)
         query.now edges.now list.now).conditions }
 {
-    let made = judge_tables(control, samples, nodes, links, work, labels);
-    match made {
-        Verdict::Refused(why) => Verdict::Refused(why),
-        Verdict::Fine => judge_own(control, query, edges, list),
-    }
+    judge_tables(lent)?;
+    judge_own(lent.control, query, edges, list)
 }

@@ -16,10 +16,8 @@ pub fn store(found: BatchFound, answers: &mut [AnswerRecord]) -> bool
     if answers.len() != found.count {
         return false;
     }
-    let mut i: usize = 0;
-    while i < answers.len() {
+    for i in 0..answers.len() {
         answers[i] = batching::answer_at(found, i);
-        i += 1;
     }
     true
 }

@@ -2,30 +2,25 @@
 // number and distance.
 #![tactic(auto)]
 
-ghost use Rattle.std.specs.Prelude.{◌≡◌, map, ◌+◌, ◌*◌, ◌≤◌, ◌<◌, min, length, get_or, set};
+ghost use Rattle.std.specs.Prelude.{◌≡◌, map, ◌+◌, ◌*◌, ◌≤◌, ◌<◌, length, get_or, set};
 ghost use Rattle.segment.specs.Stored.{samples_of};
 ghost use Rattle.dstree.specs.Batch.{most_queries, read_once};
 ghost use Rattle.tables.specs.Layout.{kind_place};
 ghost use Rattle.tables.specs.Tables.{node_count, record_of};
 ghost use Rattle.tables.specs.View.{small_most, small_at, trace_in};
-ghost use Rattle.tables.specs.Walk.{numbers_of, Stored};
+ghost use Rattle.tables.specs.Walk.{numbers_of, Stored as ListStored};
 ghost use Rattle.reading.specs.Nearest.{near_of};
-ghost use Rattle.search.specs.Searched.{without_work};
+ghost use Rattle.search.specs.Lent.{stored_tables};
 ghost use Rattle.batch_leaves.specs.LeavesRead.{Searchable, CountedOnce, BatchRoom, Turns, OneRead, AllRead};
 
+use search::stored::Stored;
 use segment::Word;
 use tables::control::field;
 use tables::numbers::wide;
 use tables::places::{FIRST, N, TRACE_COUNT};
 
-// How many records a query has: none before a leaf was read.
-fn filled(leaves: usize) -> usize
-    ensures { result ≡ min leaves 1 }
-{
-    if leaves == 0 { 0 } else { 1 }
-}
-
-// The leaf whose list starts at `head`, for one query, whose record is record i. So many leaves were read before.
+// The leaf whose list starts at `head`, for one query, whose record is record i. So many leaves were read before; without one the record
+// does not count.
 fn read_for(
     samples: &[Word],
     links: &[u16],
@@ -37,13 +32,13 @@ fn read_for(
     i: usize,
     leaves: usize,
 )
-    requires { Stored samples.now links.now n count head × (length query.now ≡ n) × (i < most_queries)
+    requires { ListStored samples.now links.now n count head × (length query.now ≡ n) × (i < most_queries)
         × (2 * i + 2 ≤ length bests.old) }
     ensures { OneRead leaves i
         (map (near_of samples.now n (samples_of query.now)) (numbers_of links.now count head))
         bests.old bests.new }
 {
-    let listed = filled(leaves);
+    let listed = leaves.min(1);
     let at = 2 * i;
     let mut one: [u64; 2] = [0; 2];
     one[0] = bests[at];
@@ -68,7 +63,7 @@ fn read_for_all(
     j: usize,
     leaves: usize,
 ) -> usize
-    requires stored { Stored samples.now links.now n count head × (length queries.now ≡ n * many) × (many ≤ most_queries)
+    requires stored { ListStored samples.now links.now n count head × (length queries.now ≡ n * many) × (many ≤ most_queries)
         × (2 * many ≤ length bests.old) × (leaves ≤ small_most) }
     requires mark { (j < length marks.old) × (get_or marks.old j 0 ≤ 1) }
     ensures all_read { AllRead leaves many
@@ -77,11 +72,9 @@ fn read_for_all(
     ensures marked { marks.new ≡ set marks.old j (get_or marks.old j 0 + 1) }
     ensures more { result ≡ leaves + 1 }
 {
-    let mut i: usize = 0;
-    while i < many {
+    for i in 0..many {
         let query = tables::runs::trace_at(queries, n, i);
         read_for(samples, links, n, count, head, query, bests, i, leaves);
-        i += 1;
     }
     marks[j] += 1;
     leaves + 1
@@ -92,10 +85,7 @@ fn read_for_all(
 // Two wrong programs that the contract rules out: one that reads the leaf for the query alone that asks for it, since the others' bests
 // then lack its traces; and one that reads a leaf with a mark again, since the mark is then above 1, be the answer kept or not.
 pub fn read_once(
-    control: &[u16],
-    samples: &[Word],
-    nodes: &[i64],
-    links: &[u16],
+    stored: Stored,
     queries: &[Word],
     many: usize,
     j: usize,
@@ -103,24 +93,32 @@ pub fn read_once(
     marks: &mut [u8],
     leaves: usize,
 ) -> usize
-    requires searchable { Searchable (without_work control.now samples.now nodes.now links.now) queries.now many
-        × BatchRoom (without_work control.now samples.now nodes.now links.now) many bests.old marks.old leaves }
-    requires leaf { (j < node_count (without_work control.now samples.now nodes.now links.now))
-        × (small_at (record_of nodes.now j) kind_place ≡ 0) }
-    ensures turns { Turns (without_work control.now samples.now nodes.now links.now)
+    requires searchable { Searchable (stored_tables stored) queries.now many
+        × BatchRoom (stored_tables stored) many bests.old marks.old leaves }
+    requires leaf { (j < node_count (stored_tables stored))
+        × (small_at (record_of stored.nodes.now j) kind_place ≡ 0) }
+    ensures turns { Turns (stored_tables stored.entry)
         queries.now many (λ read. read_once read j) bests.old marks.old leaves
         bests.new marks.new result }
-    ensures counted { CountedOnce (without_work control.now samples.now nodes.now
-        links.now)
-        marks.new result }
+    ensures counted { CountedOnce (stored_tables stored.entry) marks.new result }
 {
     if marks[j] != 0 {
         return leaves;
     }
-    let n = wide(field(control, N));
-    let count = wide(field(control, TRACE_COUNT));
-    let first = tables::records::node_small(nodes, j, FIRST);
+    let n = wide(field(stored.control, N));
+    let count = wide(field(stored.control, TRACE_COUNT));
+    let first = tables::records::node_small(stored.nodes, j, FIRST);
     read_for_all(
-        samples, links, n, count, first, queries, many, bests, marks, j, leaves,
+        stored.samples,
+        stored.links,
+        n,
+        count,
+        first,
+        queries,
+        many,
+        bests,
+        marks,
+        j,
+        leaves,
     )
 }

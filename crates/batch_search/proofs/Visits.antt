@@ -18,13 +18,18 @@ use Rattle.tables.specs.View.{tree_in, shape_in, traces_in}
 use Rattle.reading.specs.Listed.{record_at}
 use Rattle.best_first.proofs.Alike.{order_alike}
 use Rattle.leaf_order.specs.Waits.{Waits, remaining, Begun}
+use Rattle.std.specs.Prelude.{Option as Told, Some, None, if◌then◌else◌}
+use Rattle.leaf_order.specs.declared.leaves.Leaf.{Leaf}
 use Rattle.leaf_order.specs.Handed.{is_past, Past, HandedLeaf}
 use Rattle.search.proofs.Facts.{shape_alike}
 use Rattle.search.proofs.Turns.{read_next, read_end}
 use Rattle.batch_leaves.specs.LeavesRead.{query_at, best_by, CountedOnce, BatchRoom, BestsAndMarks, Turns}
 
 -- the limit: the best's distance, once there is one
-past_is : (leaves : ℕ) (a : Near) (bound : ℕ) → is_past (ltb 0 leaves) a.distance bound ≡ is_above bound (best_by leaves a)
+abbrev pub limit_by : ℕ → Near → Told ℕ
+limit_by leaves a = if ltb 0 leaves then Some a.distance else None
+
+past_is : (leaves : ℕ) (a : Near) (bound : ℕ) → is_past (limit_by leaves a) bound ≡ is_above bound (best_by leaves a)
 unfolding is_past is_above
 past_is zero a bound = refl
 past_is (suc more) a bound = let e : ltb 0 (suc more) ≡ true = lt-ltb 0 (suc more) (omega arith) in rw e
@@ -69,18 +74,15 @@ module _ (t : Tables) (run : List ℤ) (many i : ℕ) where
 
   module _ (inside : i < many) {tree : Tree} {bests₀ marks₀ : List ℕ} {leaves₀ : ℕ} {work bests marks : List ℕ} {waiting leaves : ℕ}
       (s : BatchState tree bests₀ marks₀ leaves₀ work bests marks waiting leaves) where
-    abbrev limited : Bool
-    limited = ltb 0 leaves
-
-    abbrev limit : ℕ
-    limit = (record_at bests i).distance
+    abbrev limit : Told ℕ
+    limit = limit_by leaves (record_at bests i)
 
     stops_as : {read : List ℕ} → BestsAndMarks t run many read bests marks leaves → (bound : ℕ)
-        → is_past limited limit bound ≡ stops read bound
+        → is_past limit bound ≡ stops read bound
     stops_as k bound = past_is leaves (record_at bests i) bound ∙ ap (is_above bound) (k.best_is i inside)
 
     -- no leaf to come is within the query's best
-    pub state_end : All (Past limited limit) (remaining tree query waiting work)
+    pub state_end : All (Past limit) (remaining tree query waiting work)
         → Turns t run many (λ read. read_for (traces_in t) (tree_in t) read query) bests₀ marks₀ leaves₀ bests marks leaves
     state_end past read₀ k =
         let h = s.halfway read₀ k in
@@ -88,13 +90,13 @@ module _ (t : Tables) (run : List ℤ) (many i : ℕ) where
         sym (read_end stops read_once h.read (all_mono (λ a p. sym (stops_as h.keeps a.bound) ∙ p) past)) ∙ h.goes_on in
         subst (λ (l : List ℕ). BestsAndMarks t run many l bests marks leaves) e h.keeps
 
-    module _ {work' : List ℕ} {bound j left : ℕ} (x : HandedLeaf tree query limited limit waiting work work' bound j left) where
+    module _ {work' : List ℕ} {left : ℕ} {leaf : Leaf} (x : HandedLeaf tree query limit waiting left work work' leaf) where
       pub leaf_less : length (remaining tree query left work') < length (remaining tree query waiting work)
       leaf_less = rw x.first (omega arith)
 
       -- the next leaf is read, or passed over
       pub state_leaf : (bests' marks' : List ℕ) (leaves' : ℕ)
-          → Turns t run many (λ read. read_once read j) bests marks leaves bests' marks' leaves' → CountedOnce t marks' leaves'
+          → Turns t run many (λ read. read_once read leaf.number) bests marks leaves bests' marks' leaves' → CountedOnce t marks' leaves'
           → length bests' ≡ length bests → length marks' ≡ length marks
           → BatchState tree bests₀ marks₀ leaves₀ work' bests' marks' left leaves'
       state_leaf bests' marks' leaves' turn counted size_b size_m = record {
@@ -108,12 +110,12 @@ module _ (t : Tables) (run : List ℤ) (many i : ℕ) where
         marks_size = size_m ∙ s.marks_size;
         halfway = λ read₀ k.
             let h = s.halfway read₀ k in
-            let go : stops h.read bound ≡ false = sym (stops_as h.keeps bound) ∙ x.within in
+            let go : stops h.read leaf.bound ≡ false = sym (stops_as h.keeps leaf.bound) ∙ x.within in
             record {
-              read = read_once h.read j;
+              read = read_once h.read leaf.number;
               keeps = turn h.read h.keeps;
               goes_on =
-                  sym (read_next stops read_once h.read (record { number = j; bound = bound }) (remaining tree query left work') go)
+                  sym (read_next stops read_once h.read (record { number = leaf.number; bound = leaf.bound }) (remaining tree query left work') go)
                   ∙ ap (read_on stops read_once h.read) (sym x.first) ∙ h.goes_on;
             };
       }

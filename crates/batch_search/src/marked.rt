@@ -12,7 +12,7 @@ fn note(marks: &[u8], j: usize, trail: &mut [u16], out: usize) -> usize
     ensures { Noted (is_marked marks.now j) j out result trail.old trail.new }
 {
     if marks[j] != 0 {
-        trail[out] = search::visiting::narrow(j);
+        trail[out] = j as u16;
         return out + 1;
     }
     out
@@ -24,9 +24,7 @@ pub fn write_trail(marks: &[u8], count: usize, trail: &mut [u16])
     ensures { TrailBegins (marked_of marks.now count) trail.old trail.new }
 {
     let mut out: usize = 0;
-    let mut j: usize = 0;
-    while j < count {
+    for j in 0..count {
         out = note(marks, j, trail, out);
-        j += 1;
     }
 }

@@ -18,7 +18,7 @@ use Rattle.tables.specs.Tables.{Tables, labelled_tables, measures_of}
 use Rattle.tables.specs.View.{tree_in, traces_in}
 use Rattle.tables.specs.Answers.{found_by, made_conditions}
 use Rattle.tables.specs.declared.Refusal.{Refusal}
-use Rattle.tables.specs.declared.Verdict.TheVariants as v
+use Rattle.std.specs.Prelude.{Ok, Err}
 use Rattle.reading.specs.Listed.{nears_in}
 use Rattle.search.specs.Searched.{without_work}
 use Rattle.calls.specs.Outcome.{outcome, unless_refused}
@@ -26,7 +26,6 @@ use Rattle.calls.specs.Effects.{batch_conditions_in, cleared, effect_of, outcome
 use Rattle.calls.proofs.Ends.{over_first}
 use Rattle.batch_search.specs.Batched.{batch, BatchSearched}
 use Rattle.batching.specs.Answered.{answer_by, list_by}
-use Rattle.batching.specs.declared.Batched.TheVariants as o
 
 -- nothing is stored in any list
 pub list_left : (bests : List ℕ) (list : List Near) → list_by 0 bests list ≡ list
@@ -44,8 +43,8 @@ module _ (control : List ℕ) (samples nodes : List ℤ) (links work labels : Li
   lent = labelled_tables control samples nodes links work labels
 
   pub batch_refused : (why : Refusal) (bests : List ℕ)
-      → first_of (made_conditions lent ++ batch_conditions_in lent many (length list) run trail) ≡ found_by (v.Refused why)
-      → outcome (answer_by (o.Refused why) (list_by 0 bests list) trail) lent (trail ∷ list_places (list_by 0 bests list) ∷ [])
+      → first_of (made_conditions lent ++ batch_conditions_in lent many (length list) run trail) ≡ found_by (Err why)
+      → outcome (answer_by (Err why) (list_by 0 bests list) trail) lent (trail ∷ list_places (list_by 0 bests list) ∷ [])
       ≡ outcome_on (batching many run trail list) lent
   unfolding answer_by outcome_on effect_of beside_of unless_refused found_by
   batch_refused why bests q = rw (q, list_left bests list)
@@ -63,7 +62,7 @@ module _ (control : List ℕ) (samples nodes : List ℤ) (links work labels : Li
     trail_is = over_first out trail trail' (omega (arith, s.within, trail_size)) s.trail_rest
 
     pub batch_answer : first_of (made_conditions lent ++ batch_conditions_in lent many (length list) run trail) ≡ none → length list ≡ many
-        → outcome (answer_by (o.Done out) (list_by many bests list) trail') (labelled_tables control samples nodes links work' labels)
+        → outcome (answer_by (Ok out) (list_by many bests list) trail') (labelled_tables control samples nodes links work' labels)
         (trail' ∷ list_places (list_by many bests list) ∷ []) ≡ outcome_on (batching many run trail list) lent
     unfolding answer_by outcome_on effect_of beside_of unless_refused
     batch_answer q size =

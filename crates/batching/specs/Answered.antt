@@ -1,6 +1,6 @@
 -- What a batch answers, in document 02's terms: with the records that then stand in the caller's list, and the beginning of the trail. Code
 -- that does not write that list gives back what is to be stored.
-use Rattle.std.specs.Prelude.{ℕ, ◌+◌, ◌*◌, List, length, get_or, take, eqb, if◌then◌else◌}
+use Rattle.std.specs.Prelude.{ℕ, ◌+◌, ◌*◌, List, length, get_or, take, eqb, if◌then◌else◌, Result, Ok, Err}
 use Rattle.dstree.specs.Matching.{Near}
 use Rattle.dstree.specs.Book as book
 use Rattle.dstree.specs.Book.{answering, refusing, batched}
@@ -8,13 +8,12 @@ use Rattle.tables.specs.Answers.{word_of}
 use Rattle.reading.specs.Listed.{nears_in}
 use Rattle.batching.specs.declared.AnswerRecord.{AnswerRecord}
 use Rattle.batching.specs.declared.BatchFound.{BatchFound}
-use Rattle.batching.specs.declared.Batched.{Batched}
-use Rattle.batching.specs.declared.Batched.TheVariants as o
+use Rattle.tables.specs.declared.Refusal.{Refusal}
 
 -- the count of leaves, with the records in the list and the trail's beginning; or a refusal
-unfoldable pub answer_by : Batched → List Near → List ℕ → book.Answer
-answer_by (o.Done leaves) records trail = answering (batched (record { answers = records; leaves = leaves; trail = take leaves trail }))
-answer_by (o.Refused why) records trail = refusing (word_of why)
+unfoldable pub answer_by : Result ℕ Refusal → List Near → List ℕ → book.Answer
+answer_by (Ok leaves) records trail = answering (batched (record { answers = records; leaves = leaves; trail = take leaves trail }))
+answer_by (Err why) records trail = refusing (word_of why)
 
 -- the record of query i
 abbrev pub answer_at : BatchFound → ℕ → AnswerRecord

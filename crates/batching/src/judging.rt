@@ -15,10 +15,11 @@ ghost use Rattle.calls.specs.Effects.{batch_conditions_in};
 
 use query_judging::judge_run;
 use segment::{Sample, Word};
+use tables::Refusal;
 use tables::control::field;
+use tables::lent::Lent;
 use tables::numbers::wide;
 use tables::places::N;
-use tables::{Refusal, Verdict};
 use well_formed::judging::judge_tables;
 
 // 1 to 16 queries, and a list of as many records. A longer list is no batch's either.
@@ -42,7 +43,7 @@ fn judge_own(
     many: usize,
     places: usize,
     trail: &[u16],
-) -> Verdict
+) -> Result<(), Refusal>
     requires { (t.field control.now node_count_place * record_places ≤ length nodes.now)
         × (t.field control.now node_count_place ≤ node_places) × (t.field control.now n_place ≤ most_samples) }
     ensures { (samples : List ℤ) (links work : List ℕ) → found_by result ≡ first_of (batch_conditions_in
@@ -50,12 +51,13 @@ fn judge_own(
         queries.now trail.now) }
 {
     if !is_batch(many, places) {
-        return Verdict::Refused(Refusal::BadBatch);
+        return Err(Refusal::BadBatch);
     }
     let n = wide(field(control, N));
     judge_run(control, nodes, queries, n * many, trail)
 }
 
+// The tables one by one: a match on what it answers of them as one value is not covered by the borrow checker yet.
 pub fn judge(
     control: &[u16],
     samples: &[Word],
@@ -67,16 +69,21 @@ pub fn judge(
     many: usize,
     places: usize,
     trail: &[u16],
-) -> Verdict
+) -> Result<(), Refusal>
     ensures { found_by result ≡ first_of (made_conditions
         (tables_before control samples nodes links work labels)
         ++ batch_conditions_in
         (tables_before control samples nodes links work labels)
         many places queries.now trail.now) }
 {
-    let made = judge_tables(control, samples, nodes, links, work, labels);
-    match made {
-        Verdict::Refused(why) => Verdict::Refused(why),
-        Verdict::Fine => judge_own(control, nodes, queries, many, places, trail),
-    }
+    let lent = Lent {
+        control,
+        samples,
+        nodes,
+        links,
+        work,
+        labels,
+    };
+    judge_tables(lent)?;
+    judge_own(control, nodes, queries, many, places, trail)
 }

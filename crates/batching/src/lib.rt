@@ -15,14 +15,15 @@ ghost use Rattle.tables.specs.View.{tree_in};
 ghost use Rattle.tables.specs.Lent.{tables_after_search, tables_before_search};
 ghost use Rattle.calls.specs.Outcome as calls;
 ghost use Rattle.calls.specs.Effects.{outcome_on};
-ghost use Rattle.search.specs.Searched.{without_work};
+ghost use Rattle.search.specs.Lent.{stored_tables};
 ghost use Rattle.batch_leaves.specs.LeavesRead.{Searchable};
 ghost use Rattle.batch_search.specs.Batched.{BatchSearched};
 ghost use Rattle.batching.specs.Answered.{answer_by, answer_at, list_after};
 
 use batch_search::searching::{BatchRead, search_batch};
+use search::stored::Stored;
 use segment::{Sample, Word};
-use tables::{Refusal, Verdict};
+use tables::Refusal;
 
 // One answer. In C: struct { uint64_t trace; uint64_t distance; }, 16 bytes, aligned to 8.
 #[repr(C)]
@@ -32,53 +33,35 @@ pub struct AnswerRecord {
     pub distance: u64,
 }
 
-// How many leaves were read, or a refusal.
-#[derive(Clone, Copy)]
-pub enum Batched {
-    Done(u64),
-    Refused(Refusal),
-}
-
-// What a batch found: a record for each query, two places each, trace number and distance. A refused one has the count 0.
+// What a batch found: how many leaves were read, or a refusal; a record for each query, two places each, trace number and distance. A refused
+// one has the count 0.
 #[derive(Clone, Copy)]
 pub struct BatchFound {
-    pub outcome: Batched,
+    pub outcome: Result<u64, Refusal>,
     pub count: usize,
     pub bests: [u64; 32],
 }
 
 // The search, for a run of plain samples: it is made words first, at most 16 times 256.
 fn search_given(
-    control: &[u16],
-    samples: &[Word],
-    nodes: &[i64],
-    links: &[u16],
+    stored: Stored,
     queries: &[Sample],
     many: usize,
     work: &mut [u64],
     trail: &mut [u16],
 ) -> BatchRead
-    requires { Searchable (without_work control.now samples.now nodes.now links.now) queries.now many
-        × (work_needed (measures_of (without_work control.now samples.now nodes.now links.now)) ≤ length work.old)
-        × (length (leaves (tree_in (without_work control.now samples.now nodes.now links.now))) ≤ length trail.old)
+    requires { Searchable (stored_tables stored) queries.now many
+        × (work_needed (measures_of (stored_tables stored)) ≤ length work.old)
+        × (length (leaves (tree_in (stored_tables stored))) ≤ length trail.old)
         × SamplesWithin sample_most queries.now }
-    ensures { BatchSearched (without_work control.now samples.now nodes.now links.now)
+    ensures { BatchSearched (stored_tables stored.entry)
         queries.now many work.old work.new trail.old trail.new result.bests
         result.leaves }
 {
     let mut words: [Word; 4096] = [0; 4096];
     tables::given::words_of(queries, &mut words);
     let size = queries.len();
-    search_batch(
-        control,
-        samples,
-        nodes,
-        links,
-        &words[..size],
-        many,
-        work,
-        trail,
-    )
+    search_batch(stored, &words[..size], many, work, trail)
 }
 
 // Matches the queries of a run together, for a list of so many records, whichever: what is to be stored there is given back. Every refusal
@@ -104,20 +87,26 @@ pub fn match_all(
         ≡ outcome_on (batching many queries.now trail.old list)
         (tables_before_search control samples nodes links work labels) }
 {
-    let verdict = judging::judge(
+    let judged = judging::judge(
         control, samples, nodes, links, work, labels, queries, many, places, trail,
     );
-    match verdict {
-        Verdict::Refused(why) => BatchFound {
-            outcome: Batched::Refused(why),
+    match judged {
+        Err(why) => BatchFound {
+            outcome: Err(why),
             count: 0,
             bests: [0; 32],
         },
-        Verdict::Fine => {
-            let found = search_given(control, samples, nodes, links, queries, many, work, trail);
+        Ok(()) => {
+            let stored = Stored {
+                control,
+                samples,
+                nodes,
+                links,
+            };
+            let found = search_given(stored, queries, many, work, trail);
             let bests = found.bests;
             BatchFound {
-                outcome: Batched::Done(found.leaves as u64),
+                outcome: Ok(found.leaves as u64),
                 count: many,
                 bests,
             }

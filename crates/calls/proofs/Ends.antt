@@ -1,6 +1,7 @@
 -- The two ways that a call ends, by what its judge found: a refusal with everything as it was, or its work done. And a slice whose first
 -- places were written.
 use Prim.Native.Nat.{ℕ, ◌≤◌}
+use Rattle.std.specs.Prelude.{Err}
 use mathlib.Core.Path.{◌≡◌, sym, ap, ◌∙◌}
 use mathlib.Core.Option.{none}
 use mathlib.Core.List.{List, ◌++◌}
@@ -11,11 +12,10 @@ use Rattle.dstree.specs.Book.{Result, refusing, answering, over}
 use Rattle.tables.specs.Tables.{Tables}
 use Rattle.tables.specs.Answers.{word_of, found_by}
 use Rattle.tables.specs.declared.Refusal.{Refusal}
-use Rattle.tables.specs.declared.Verdict.TheVariants as v
 use Rattle.calls.specs.Outcome.{Effect, outcome, unless_refused, outcome_of}
 
 module _ (before : Tables) (beside : List (List ℕ)) (e : Effect) where
-  pub ends_refused : (why : Refusal) → first_of e.conditions ≡ found_by (v.Refused why) → outcome (refusing (word_of why)) before beside ≡ outcome_of before beside e
+  pub ends_refused : (why : Refusal) → first_of e.conditions ≡ found_by (Err why) → outcome (refusing (word_of why)) before beside ≡ outcome_of before beside e
   unfolding found_by unless_refused
   ends_refused why q = rw q
 

@@ -12,7 +12,7 @@ use lib.Dec.{T, ltb}
 use borrow.Author.Tests.{ltb-false}
 use Rattle.dstree.specs.Measures.{Trace, Measures, sample_limit, in_range, is_library, samples_needed, records_needed, links_needed, work_needed, labels_needed}
 use Rattle.dstree.specs.Labels.{Label, no_label, are_labels}
-use Rattle.dstree.specs.Refusals.{Refusal, ◌refuses◌, first_of, measure, full, bad_recording}
+use Rattle.dstree.specs.Refusals.{Refusal, first_of, measure, full, bad_recording}
 use Rattle.dstree.specs.Recording.{judge_recording, file_traces, is_bad_file}
 use Rattle.dstree.specs.Sheet.{are_bytes, Judged, refused, holds}
 use Rattle.dstree.specs.SheetWidths.{judge_sheet}

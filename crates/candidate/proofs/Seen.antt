@@ -1,13 +1,11 @@
 -- What a walk along a list's first places has seen, as the record that code answers, and that its yes is a candidate's that parts the leaf.
-use mathlib.Core.Path.{◌≡◌, refl, sym, ap, ap₂, subst, ◌∙◌}
+use mathlib.Core.Path.{◌≡◌, refl, sym, ap, ap₂, ◌∙◌}
 use mathlib.Core.Bool.{Bool, true, false, not, beq}
 use mathlib.Core.List.{List, [], map}
 use Prim.Native.Nat.{ℕ, ◌+◌, ◌≤◌, ◌<◌}
-use native.Mathlib.Omega.{arith}
 use native.Mathlib.Numerals.{add-one}
 use lib.IntN.{ℤ}
 use lib.ListN.{length, get_or, take}
-use lib.Seq.{take-take, get_or-take, length-take-le}
 use lib.Signed.{lt_z}
 use Rattle.integer.specs.Words.{least_ℤ, greatest_ℤ}
 use Rattle.integer.proofs.Lists.{In}
@@ -40,34 +38,27 @@ alike true false e = e
 alike false true e = sym e
 alike false false e = refl
 
-module _ (stored : List Trace) (list : List ℕ) (count : ℕ) (room : count ≤ length list) where
-  abbrev numbers : List ℕ
-  numbers = take count list
+module _ (stored : List Trace) (list : List ℕ) (test : Test) where
+  -- one side alone is seen
+  pub seen_whole : show_sides (goes_by stored test) list ≡ false → look false (length list) ≡ look_of stored test list
+  seen_whole e = ap₂ look (sym e) (sym ((taken_of (goes_by stored test) list).all_else e))
 
-  module _ (test : Test) where
-    -- one side alone is seen
-    pub seen_whole : show_sides (goes_by stored test) numbers ≡ false → look false count ≡ look_of stored test numbers
-    seen_whole e = ap₂ look (sym e) (sym ((taken_of (goes_by stored test) numbers).all_else e ∙ length-take-le count list room))
+  -- all go to one side
+  pub seen_none : (b : Bool) → ((t : ℕ) → In t list → goes_by stored test t ≡ b) → look false (length list) ≡ look_of stored test list
+  seen_none b h = seen_whole (one_side (goes_by stored test) b list h)
 
-    -- all go to one side
-    pub seen_none : (b : Bool) → ((t : ℕ) → In t numbers → goes_by stored test t ≡ b) → look false count ≡ look_of stored test numbers
-    seen_none b h = seen_whole (one_side (goes_by stored test) b numbers h)
-
-    -- the first i go to one side, and the next to the other
-    pub seen_found : (b : Bool) (i : ℕ) → 1 ≤ i → i < count → ((t : ℕ) → In t (take i list) → goes_by stored test t ≡ b)
-        → goes_by stored test (get_or list i 0) ≡ not b → look true (i + 1) ≡ look_of stored test numbers
-    seen_found b i some here so_far other =
-        let e = looked_found (goes_by stored test) numbers b i some (omega (arith, length-take-le count list room, here))
-        (λ t j. so_far t (subst (In t) (take-take i count list (omega (arith, here))) j))
-        (ap (goes_by stored test) (get_or-take count list i 0 here) ∙ other) in
-        ap₂ look (sym e.0) (add-one i ∙ sym e.1)
+  -- the first i go to one side, and the next to the other
+  pub seen_found : (b : Bool) (i : ℕ) → 1 ≤ i → i < length list → ((t : ℕ) → In t (take i list) → goes_by stored test t ≡ b)
+      → goes_by stored test (get_or list i 0) ≡ not b → look true (i + 1) ≡ look_of stored test list
+  seen_found b i some here so_far other =
+      let e = looked_found (goes_by stored test) list b i some here so_far other in ap₂ look (sym e.0) (add-one i ∙ sym e.1)
 
 -- both sides of a candidate's test are seen exactly if its least figure is below its greatest
 pub seen_below : (stored : List Trace) (numbers : List ℕ) (c : Trial) (threshold : ℤ)
-    → threshold ≡ threshold_of (figure_by c.by_scatter) (run c.first c.last) (traces_of stored numbers)
+    → threshold ≡ threshold_of (figure_by c.by_scatter) (run c.on.first c.on.last) (traces_of stored numbers)
     → show_sides (goes_by stored (trial_test c threshold)) numbers
-    ≡ lt_z (least_ℤ (map (figure_of (figure_by c.by_scatter) (run c.first c.last)) (traces_of stored numbers)))
-    (greatest_ℤ (map (figure_of (figure_by c.by_scatter) (run c.first c.last)) (traces_of stored numbers)))
+    ≡ lt_z (least_ℤ (map (figure_of (figure_by c.by_scatter) (run c.on.first c.on.last)) (traces_of stored numbers)))
+    (greatest_ℤ (map (figure_of (figure_by c.by_scatter) (run c.on.first c.on.last)) (traces_of stored numbers)))
 unfolding test_of
 seen_below stored numbers c threshold e =
     ap (λ (z : ℤ). show_sides (goes_by stored (trial_test c z)) numbers) e

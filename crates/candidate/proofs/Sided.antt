@@ -1,34 +1,35 @@
 -- A side of a list, number by number, and an array that it is written to.
 use Rattle.std.specs.Prelude.{if◌then◌else◌}
-use mathlib.Core.Path.{◌≡◌, refl, sym, ap, subst, ◌∙◌}
+use mathlib.Core.Path.{◌≡◌, refl, sym, ap, ◌∙◌}
 use mathlib.Core.Bool.{Bool, true, false, beq}
 use mathlib.Core.List.{List, [], ◌∷◌, ◌++◌, append_assoc}
-use Prim.Native.Nat.{ℕ, suc, ◌+◌, ◌*◌, ◌≤◌, ◌<◌}
+use Prim.Native.Nat.{ℕ, suc, ◌+◌, ◌≤◌, ◌<◌}
 use native.Mathlib.Omega.{arith}
-use lib.IntN.{ℤ}
 use lib.ListN.{length, get_or, set, take}
+use mir.Val.{bool_byte}
 use lib.Seq.{take-suc-set, take-set-le}
 use Rattle.integer.specs.Words.{those}
 use Rattle.integer.proofs.Lists.{In, map_agree, those_agree, from_those}
 use Rattle.dstree.specs.Measures.{Trace}
 use Rattle.dstree.specs.Node.{Test, sends_left}
 use Rattle.dstree.specs.Adding.{traces_of}
-use Rattle.tables.specs.View.{trace_in}
-use Rattle.tables.specs.Walk.{stored_in}
 use Rattle.tables.proofs.Listed.{stored_at}
-use Rattle.leaf_figures.specs.Rows.{traces_at, FiguresAt, Rows}
+use Rattle.leaf_figures.specs.Listed.{traces_at}
+use Rattle.leaf_figures.specs.Rows.{trace_of, all_traces, stored_of, HasRows}
+use Rattle.leaf_figures.specs.declared.listed.Listed.{Listed}
+use Rattle.leaf_figures.specs.declared.table.Table.{Table}
 use Rattle.candidate.specs.Siding.{on_side, side_of}
 
 -- one number more, if it is on the side
 abbrev pub with_one : Bool → ℕ → List ℕ → List ℕ
 with_one b t rest = if b then t ∷ rest else rest
 
-module _ (samples : List ℤ) (n : ℕ) (test : Test) (left : Bool) where
-  pub side_more : (t : ℕ) (rest : List ℕ) → side_of samples n test left (t ∷ rest) ≡ with_one (on_side left (sends_left test (trace_in samples n t))) t (side_of samples n test left rest)
+module _ (l : Listed) (test : Test) (left : Bool) where
+  pub side_more : (t : ℕ) (rest : List ℕ) → side_of l test left (t ∷ rest) ≡ with_one (on_side left (sends_left test (trace_of l t))) t (side_of l test left rest)
   unfolding those
   side_more t rest = refl
 
-  pub side_none : side_of samples n test left [] ≡ []
+  pub side_none : side_of l test left [] ≡ []
   unfolding those
   side_none = refl
 
@@ -48,40 +49,40 @@ pub counted_most : (b : Bool) (count : ℕ) → (if b then suc count else count)
 counted_most true count = omega arith
 counted_most false count = omega arith
 
+-- one more, if the test says so
+pub counted_is : (b : Bool) (count : ℕ) → count + bool_byte b ≡ (if b then suc count else count)
+counted_is true count = omega arith
+counted_is false count = omega arith
+
 -- ---- a side's traces and figures
 
-module _ (samples : List ℤ) (n k : ℕ) (numbers : List ℕ) (below : (t : ℕ) → In t numbers → t < k) where
-  pub list_traces : traces_at samples n numbers ≡ traces_of (stored_in samples n k) numbers
-  list_traces = map_agree (trace_in samples n) (λ (t : ℕ). get_or (stored_in samples n k) t []) numbers (λ t i. sym (stored_at samples n k t (below t i)))
+module _ (l : Listed) where
+  pub list_traces : all_traces l ≡ traces_of (stored_of l) l.list.now
+  list_traces = map_agree (trace_of l) (λ (t : ℕ). get_or (stored_of l) t []) l.list.now (λ t i. sym (stored_at l.samples.now l.n l.k t (l.inside.below t i)))
 
   abbrev on : Test → Bool → ℕ → Bool
-  on test left t = on_side left (sends_left test (get_or (stored_in samples n k) t []))
+  on test left t = on_side left (sends_left test (get_or (stored_of l) t []))
 
-  side_same : (test : Test) (left : Bool) → side_of samples n test left numbers ≡ those (on test left) numbers
-  side_same test left = those_agree (λ t. on_side left (sends_left test (trace_in samples n t))) (on test left) numbers
-      (λ t i. ap (λ (x : Trace). on_side left (sends_left test x)) (sym (stored_at samples n k t (below t i))))
+  side_same : (test : Test) (left : Bool) → side_of l test left l.list.now ≡ those (on test left) l.list.now
+  side_same test left = those_agree (λ t. on_side left (sends_left test (trace_of l t))) (on test left) l.list.now
+      (λ t i. ap (λ (x : Trace). on_side left (sends_left test x)) (sym (stored_at l.samples.now l.n l.k t (l.inside.below t i))))
 
-  pub side_traces : (test : Test) (left : Bool) → traces_at samples n (side_of samples n test left numbers) ≡ traces_of (stored_in samples n k) (those (on test left) numbers)
+  pub side_traces : (test : Test) (left : Bool) → traces_at l.samples.now l.n (side_of l test left l.list.now) ≡ traces_of (stored_of l) (those (on test left) l.list.now)
   side_traces test left =
-      ap (traces_at samples n) (side_same test left)
-      ∙ map_agree (trace_in samples n) (λ (t : ℕ). get_or (stored_in samples n k) t []) (those (on test left) numbers)
-      (λ t i. sym (stored_at samples n k t (below t (from_those (on test left) numbers i).0)))
+      ap (traces_at l.samples.now l.n) (side_same test left)
+      ∙ map_agree (trace_of l) (λ (t : ℕ). get_or (stored_of l) t []) (those (on test left) l.list.now)
+      (λ t i. sym (stored_at l.samples.now l.n l.k t (l.inside.below t (from_those (on test left) l.list.now i).0)))
 
-pub side_in : (samples : List ℤ) (n : ℕ) (test : Test) (left : Bool) (numbers : List ℕ) {t : ℕ} → In t (side_of samples n test left numbers) → In t numbers
-side_in samples n test left numbers i = (from_those (λ (u : ℕ). on_side left (sends_left test (trace_in samples n u))) numbers i).0
+  pub side_in : (test : Test) (left : Bool) {t : ℕ} → In t (side_of l test left l.list.now) → In t l.list.now
+  side_in test left i = (from_those (λ (u : ℕ). on_side left (sends_left test (trace_of l u))) l.list.now i).0
 
--- what a table keeps of a listed trace, in the column of a run
-pub row_at : {samples : List ℤ} {n : ℕ} {numbers place runs : List ℕ} {sums : List ℤ} {scatters : List ℕ}
-    → Rows samples n numbers place runs sums scatters → (column first last : ℕ) → 0 < last → (column < 48 → get_or runs column 0 ≡ first)
-    → (column < 48 → get_or runs (48 + column) 0 ≡ last) → (t : ℕ) → In t numbers
-    → (column < 48 → t < length place) × (column < 48 → FiguresAt (trace_in samples n t) first last sums scatters (column * 65 + get_or place t 0))
-row_at {samples} {n} {numbers} {place} {runs} {sums} {scatters} r column first last some from to t i =
-    let kept : (f l : ℕ) → Type 0 = λ (f l : ℕ). FiguresAt (trace_in samples n t) f l sums scatters (column * 65 + get_or place t 0) in (
-      (λ h. r.placed column t h (omega (arith, to h, some)) i),
-      (λ h. subst (λ (f : ℕ). kept f last) (from h)
-          (subst (λ (l : ℕ). kept (get_or runs column 0) l) (to h) (r.kept column t h (omega (arith, to h, some)) i))),
-    )
-
-pub rows_among : {samples : List ℤ} {n : ℕ} {numbers some place runs : List ℕ} {sums : List ℤ} {scatters : List ℕ} → ((t : ℕ) → In t some → In t numbers)
-    → Rows samples n numbers place runs sums scatters → Rows samples n some place runs sums scatters
-rows_among among r = record { places = r.places; placed = λ f t h s i. r.placed f t h s (among t i); kept = λ f t h s i. r.kept f t h s (among t i) }
+-- the rows of some of the traces
+pub rows_among : (l m : Listed) (table : Table) → m.samples.now ≡ l.samples.now → m.n ≡ l.n → ((t : ℕ) → In t m.list.now → In t l.list.now) → HasRows l table → HasRows m table
+rows_among l m table samples n among h = record {
+  places = h.places;
+  rows = λ f on some.
+      let r = h.rows f on some in record {
+        placed = λ t i. r.placed t (among t i);
+        kept = λ t i. rw (samples, n) (r.kept t (among t i));
+      };
+}

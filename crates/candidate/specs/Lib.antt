@@ -3,3 +3,4 @@ pub mod Marking
 pub mod Siding
 pub mod Parting
 pub mod Trials
+pub mod Leaves

@@ -1,6 +1,6 @@
 -- What the judge of tables leaves to the check: tables that are well formed and long enough, in which neither the test nor what it looks
 -- at depends on search work. And the two ways that the check ends.
-use mathlib.Core.Path.{◌≡◌, refl, ◌∙◌}
+use mathlib.Core.Path.{◌≡◌, refl, sym, ◌∙◌}
 use mathlib.Core.Bool.{Bool, not}
 use mathlib.Core.Option.{none}
 use mathlib.Core.List.{List, [], ◌∷◌}
@@ -16,13 +16,12 @@ use Rattle.tables.specs.View.{tree_in, traces_in, kinds_named, well_formed}
 use Rattle.tables.specs.Holds.{Long}
 use Rattle.tables.specs.Answers.{found_by, made_conditions}
 use Rattle.tables.specs.declared.Refusal.{Refusal}
-use Rattle.tables.specs.declared.Verdict.TheVariants as v
+use Rattle.std.specs.Prelude.{Result, Ok, Err, ⊤}
 use Rattle.tables.proofs.Judged as judged
 use Rattle.calls.specs.Outcome.{outcome}
 use Rattle.calls.specs.Effects.{checks, effect_of, outcome_on}
 use Rattle.calls.proofs.Ends.{ends_refused, ends_done}
 use Rattle.checking.specs.Answered.{answer_by}
-use Rattle.checking.specs.declared.Checked.TheVariants as c
 
 module _ (control : List ℕ) (samples nodes : List ℤ) (links work labels : List ℕ) where
   abbrev t : Tables
@@ -42,12 +41,7 @@ module _ (control : List ℕ) (samples nodes : List ℤ) (links work labels : Li
   unfolding checks tree_in traces_in
   last_condition b e is = first_none (made_conditions t) (not (is_exact (traces_in t) (tree_in t)) refuses loose_record ∷ []) e ∙ rw is
 
-module _ (t : Tables) where
-  pub refused_answer : (why : Refusal) → first_of (checks t).conditions ≡ found_by (v.Refused why)
-      → outcome (answer_by (c.Refused why)) t [] ≡ outcome_on checking t
-  unfolding answer_by outcome_on effect_of beside_of
-  refused_answer why q = ends_refused t [] (checks t) why q
-
-  pub accepted_answer : first_of (checks t).conditions ≡ none → outcome (answer_by c.Accepted) t [] ≡ outcome_on checking t
-  unfolding answer_by outcome_on effect_of beside_of checks
-  accepted_answer q = ends_done t [] (checks t) accepted t [] q refl refl refl
+pub checked_answer : (t : Tables) (found : Result ⊤ Refusal) → found_by found ≡ first_of (checks t).conditions → outcome (answer_by found) t [] ≡ outcome_on checking t
+unfolding found_by answer_by outcome_on effect_of beside_of checks
+checked_answer t (Err why) q = ends_refused t [] (checks t) why (sym q)
+checked_answer t (Ok _) q = ends_done t [] (checks t) accepted t [] (sym q) refl refl refl

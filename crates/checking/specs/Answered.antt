@@ -1,9 +1,9 @@
 -- What `check_tables` answers, in document 02's terms.
+use Rattle.std.specs.Prelude.{Result, Ok, Err, ⊤}
 use Rattle.dstree.specs.Book.{Answer, answering, refusing, accepted}
 use Rattle.tables.specs.Answers.{word_of}
-use Rattle.checking.specs.declared.Checked.{Checked}
-use Rattle.checking.specs.declared.Checked.TheVariants as c
+use Rattle.tables.specs.declared.Refusal.{Refusal}
 
-unfoldable pub answer_by : Checked → Answer
-answer_by c.Accepted = answering accepted
-answer_by (c.Refused why) = refusing (word_of why)
+unfoldable pub answer_by : Result ⊤ Refusal → Answer
+answer_by (Ok _) = answering accepted
+answer_by (Err why) = refusing (word_of why)

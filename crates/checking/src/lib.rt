@@ -18,17 +18,11 @@ ghost use Rattle.calls.specs.Effects.{outcome_on};
 ghost use Rattle.checking.specs.Answered.{answer_by};
 
 use segment::Word;
+use tables::Refusal;
 use tables::control::field;
+use tables::lent::Lent;
 use tables::numbers::wide;
 use tables::places::{N, NODE_COUNT, TRACE_COUNT};
-use tables::{Refusal, Verdict};
-
-// That the tables are accepted, or a refusal.
-#[derive(Drop)]
-pub enum Checked {
-    Accepted,
-    Refused(Refusal),
-}
 
 // Of tables that are well formed and long enough. Each sample is taken once for its leaf, and once more for each node on the way up in
 // which its segment of the parent is cut: 16 times at most, as a record has 16 segments at most. Lists and places are the call's own.
@@ -62,15 +56,19 @@ pub fn check_tables(
     links: &[u16],
     work: &[u64],
     labels: &[u64],
-) -> Checked
+) -> Result<(), Refusal>
     ensures { outcome (answer_by result)
         (tables_before control samples nodes links work labels) []
         ≡ outcome_on checking
         (tables_before control samples nodes links work labels) }
 {
-    let verdict = judging::judge(control, samples, nodes, links, work, labels);
-    match verdict {
-        Verdict::Refused(why) => Checked::Refused(why),
-        Verdict::Fine => Checked::Accepted,
-    }
+    let lent = Lent {
+        control,
+        samples,
+        nodes,
+        links,
+        work,
+        labels,
+    };
+    judging::judge(lent)
 }

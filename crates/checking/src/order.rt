@@ -1,20 +1,20 @@
 // The traces below every node, in one array.
 
-ghost use Rattle.std.specs.Prelude.{◌≡◌, ◌+◌, ◌≤◌, ◌<◌, length};
+ghost use Rattle.std.specs.Prelude.{◌+◌, ◌≤◌, ◌<◌, length};
 ghost use Rattle.tables.specs.Walk.{Rising, numbers_of};
-ghost use Rattle.tables.specs.Layout.{node_places};
 ghost use Rattle.dstree.specs.Measures.{most_traces};
 ghost use Rattle.tables.specs.Nodes.{tree_by, Walks};
 ghost use Rattle.checking.specs.Laid.{SizesLaid, PutFrom, LaidTo, LaidOut};
 
-use tables::numbers::wide;
-use tables::places::{FIRST, KIND, RIGHT};
+use tables::kinds::is_leaf;
+use tables::places::{FIRST, RIGHT};
 use tables::records::node_small;
 use tables::walk::behind;
 
 // Writes the numbers of the list that starts at `head`, from a place on.
+// A `for` is no plainer: the walk along the links has no range to run over.
 fn put_list(links: &[u16], k: usize, head: usize, order: &mut [u16; 4096], at: usize)
-    requires { (head < k) × (k ≤ most_traces) × (k ≤ length links.now) × Rising links.now k × (length order.old ≡ most_traces)
+    requires { (head < k) × (k ≤ most_traces) × (k ≤ length links.now) × Rising links.now k
         × (at + length (numbers_of links.now k head) ≤ most_traces) }
     ensures { PutFrom order.old order.new at (numbers_of links.now k head) }
 {
@@ -43,11 +43,10 @@ fn lay_node(
         × LaidTo (tree_by nodes.now links.now k m) j starts.old order.old }
     ensures { LaidTo (tree_by nodes.now links.now k m) (j + 1) starts.new order.new }
 {
-    let kind = node_small(nodes, j, KIND);
     let first = node_small(nodes, j, FIRST);
     let start = starts[j];
-    if kind == 0 {
-        put_list(links, k, first, order, wide(start));
+    if is_leaf(nodes, j) {
+        put_list(links, k, first, order, usize::from(start));
         return;
     }
     let right = node_small(nodes, j, RIGHT);
@@ -66,15 +65,12 @@ pub fn lay_out(
     starts: &mut [u16; 8192],
     order: &mut [u16; 4096],
 )
-    requires { Walks nodes.now links.now k m × SizesLaid (tree_by nodes.now links.now k m) sizes.now 0
-        × (length starts.old ≡ node_places) × (length order.old ≡ most_traces) }
+    requires { Walks nodes.now links.now k m × SizesLaid (tree_by nodes.now links.now k m) sizes.now 0 }
     ensures { LaidOut (tree_by nodes.now links.now k m) sizes.now starts.new
         order.new }
 {
     starts[0] = 0;
-    let mut j: usize = 0;
-    while j < m {
+    for j in 0..m {
         lay_node(nodes, links, k, m, j, sizes, starts, order);
-        j += 1;
     }
 }

@@ -2,12 +2,11 @@
 
 ghost use Rattle.std.specs.Prelude.{◌≡◌, ◌+◌, ◌<◌, length};
 ghost use Rattle.dstree.specs.Checking.{traces_below};
-ghost use Rattle.tables.specs.Layout.{node_places};
 ghost use Rattle.tables.specs.Nodes.{tree_by, Walks};
 ghost use Rattle.checking.specs.Laid.{SizesLaid};
 
-use tables::numbers::wide;
-use tables::places::{FIRST, KIND, RIGHT};
+use tables::kinds::is_leaf;
+use tables::places::{FIRST, RIGHT};
 use tables::records::node_small;
 use tables::walk::list_size;
 
@@ -23,23 +22,20 @@ fn node_size(
     requires { Walks nodes.now links.now k m × (j < m) × SizesLaid (tree_by nodes.now links.now k m) sizes.now (j + 1) }
     ensures { result ≡ length (traces_below (tree_by nodes.now links.now k m) j) }
 {
-    let kind = node_small(nodes, j, KIND);
     let first = node_small(nodes, j, FIRST);
-    if kind == 0 {
+    if is_leaf(nodes, j) {
         return list_size(links, k, first);
     }
     let right = node_small(nodes, j, RIGHT);
-    wide(sizes[first]) + wide(sizes[right])
+    usize::from(sizes[first]) + usize::from(sizes[right])
 }
 
 // Of every node, the last one first.
 pub fn fill_sizes(nodes: &[i64], links: &[u16], k: usize, m: usize, sizes: &mut [u16; 8192])
-    requires { Walks nodes.now links.now k m × (length sizes.old ≡ node_places) }
+    requires { Walks nodes.now links.now k m }
     ensures { SizesLaid (tree_by nodes.now links.now k m) sizes.new 0 }
 {
-    let mut j = m;
-    while 0 < j {
-        j -= 1;
+    for j in (0..m).rev() {
         let size = node_size(nodes, links, k, m, j, sizes);
         sizes[j] = size as u16;
     }

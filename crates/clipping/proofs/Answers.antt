@@ -19,7 +19,7 @@ use Rattle.calls.specs.Effects.{clips, effect_of, outcome_on}
 use Rattle.calls.proofs.Ends.{ends_done}
 use Rattle.clipping.specs.Compared.{samples_only}
 use Rattle.clipping.specs.Answered.{answer_by}
-use Rattle.clipping.specs.declared.Clipped.TheVariants as c
+use Rattle.std.specs.Prelude.{Ok}
 
 module _ (control : List ℕ) (samples nodes : List ℤ) (links work labels : List ℕ) (lows highs : Trace) (list work' list' : List ℕ) (count : ℕ) where
   abbrev lent : Tables
@@ -47,7 +47,7 @@ module _ (control : List ℕ) (samples nodes : List ℤ) (links work labels : Li
         ∙ take_at found.list (drop (length found.list) list) found.count (sym (listed_anywhere (traces_in lent) lows highs).counted)
 
     pub clipped_answer : first_of (clips lent lows highs list).conditions ≡ none
-        → outcome (answer_by (c.Possible count) list') (labelled_tables control samples nodes links work' labels) (list' ∷ [])
+        → outcome (answer_by (Ok count) list') (labelled_tables control samples nodes links work' labels) (list' ∷ [])
         ≡ outcome_on (book.clipping lows highs list) lent
     unfolding answer_by outcome_on effect_of beside_of
     clipped_answer e =

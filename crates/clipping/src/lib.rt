@@ -17,17 +17,11 @@ ghost use Rattle.clipping.specs.Compared.{samples_only, Listable};
 ghost use Rattle.clipping.specs.Answered.{answer_by};
 
 use segment::{Sample, Word};
+use tables::Refusal;
 use tables::control::field;
+use tables::lent::Lent;
 use tables::numbers::{wide, wider};
 use tables::places::{CAPACITY, N, TRACE_COUNT};
-use tables::{Refusal, Verdict};
-
-// How many traces are listed, at the beginning of the list, or a refusal.
-#[derive(Drop)]
-pub enum Clipped {
-    Possible(u64),
-    Refused(Refusal),
-}
 
 // The list, of tables and figures that are not refused. It uses no search work, and leaves it zero. Neither nodes nor links are lent.
 fn list_possible(
@@ -51,7 +45,7 @@ fn list_possible(
     let count = wide(field(control, TRACE_COUNT));
     let needed = tables::control::records_needed(wider(field(control, CAPACITY)));
     let limit = passes::smallest_greatest(samples, n, count, lows, highs);
-    tables::loops::zero_work(work, needed);
+    tables::loops::fill_first(work, needed, 0);
     passes::list_within(samples, n, count, lows, highs, limit, list)
 }
 
@@ -70,21 +64,22 @@ pub fn match_clipped(
     list: &mut [u16],
     lows: &[Sample],
     highs: &[Sample],
-) -> Clipped
+) -> Result<u64, Refusal>
     ensures { outcome (answer_by result list.new)
         (tables_after_search control samples nodes links work labels)
         (list.new ∷ [])
         ≡ outcome_on (clipping lows.now highs.now list.old)
         (tables_before_search control samples nodes links work labels) }
 {
-    let verdict = judging::judge(
-        control, samples, nodes, links, work, labels, lows, highs, list,
-    );
-    match verdict {
-        Verdict::Refused(why) => Clipped::Refused(why),
-        Verdict::Fine => {
-            let count = list_possible(control, samples, lows, highs, work, list);
-            Clipped::Possible(count as u64)
-        }
-    }
+    let lent = Lent {
+        control,
+        samples,
+        nodes,
+        links,
+        work,
+        labels,
+    };
+    judging::judge(lent, lows, highs, list)?;
+    let count = list_possible(control, samples, lows, highs, work, list);
+    Ok(count as u64)
 }

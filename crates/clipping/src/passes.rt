@@ -24,10 +24,8 @@ pub fn smallest_greatest(
     ensures { result ≡ smallest_greatest (stored_in samples.now n count) lows.now highs.now }
 {
     let mut smallest: u64 = 562949953421312;
-    let mut t: usize = 0;
-    while t < count {
+    for t in 0..count {
         smallest = greatest_within(lows, highs, trace_at(samples, n, t), smallest);
-        t += 1;
     }
     smallest
 }
@@ -71,10 +69,8 @@ pub fn list_within(
         list.old list.new }
 {
     let mut out: usize = 0;
-    let mut t: usize = 0;
-    while t < count {
+    for t in 0..count {
         out = note(samples, n, t, lows, highs, limit, list, out);
-        t += 1;
     }
     out
 }

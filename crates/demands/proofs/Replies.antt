@@ -7,6 +7,7 @@ use mathlib.Core.List.{List, [], ◌∷◌, ◌++◌, map, append-nil}
 use native.Mathlib.Omega.{arith}
 use lib.ListN.{length, get_or, take, drop, replicate, length-map}
 use lib.Seq.{take_at}
+use Rattle.std.specs.Prelude.{Result, Ok, Err, ⊤, Some, None}
 use denote.Ref.{Bor, MutBor}
 use denote.Triple.Clauses.{AtExit}
 use borrow.Fn.Kinds.{ParamKind, ResultKind, Dens, ended_of, Out, res_t}
@@ -52,63 +53,40 @@ use Rattle.calls.specs.Effects.{batches, batch_conditions_in, bands, limits, cli
 use Rattle.calls.specs.Follows.{FromTables, Typed}
 use Rattle.calls.specs.Pairs.{with_work}
 use Rattle.calls.proofs.Library.{work_stays}
-use Rattle.checking.specs.declared.Checked.{Checked}
-use Rattle.checking.specs.declared.Checked.TheVariants as k
 use Rattle.checking.specs.Answered as checking_answer
-use Rattle.opening.specs.declared.Opened.{Opened}
-use Rattle.opening.specs.declared.Opened.TheVariants as o
 use Rattle.opening.specs.Opened as opening_answer
-use Rattle.adding.specs.declared.Added.{Added}
-use Rattle.adding.specs.declared.Added.TheVariants as a
 use Rattle.adding.specs.Answered as adding_answer
 use Rattle.reading.specs.Listed.{nears_in}
 use Rattle.reading.proofs.Places.{nears_in_lem}
 use Rattle.matching.specs.declared.Found.{Found}
-use Rattle.matching.specs.declared.Found.TheVariants as f
 use Rattle.matching.specs.Answered as matching_answer
 use Rattle.batching.specs.declared.AnswerRecord as batch_record
 use Rattle.batching.specs.declared.BatchFound.{BatchFound}
-use Rattle.batching.specs.declared.Batched.TheVariants as b
 use Rattle.batching.specs.Answered as batching_answer
 use Rattle.batching.specs.Answered.{list_by, list_after}
 use Rattle.batching.proofs.Taken.{taken}
 use Rattle.batching.proofs.Answers.{list_filled, batch_refused}
 use Rattle.batch_answers.specs.AnswerRecords.{store_of, nears_of}
 use Rattle.listing.specs.declared.Listed.{Listed}
-use Rattle.listing.specs.declared.Listed.TheVariants as l
 use Rattle.listing.specs.Answered as listing_answer
-use Rattle.sheet_writing.specs.declared.Written.{Written}
-use Rattle.sheet_writing.specs.declared.Written.TheVariants as w
 use Rattle.sheet_writing.specs.Answered as writing_answer
-use Rattle.sheet_reading.specs.declared.Read.{Read}
-use Rattle.sheet_reading.specs.declared.Read.TheVariants as d
 use Rattle.sheet_reading.specs.Answered as reading_answer
-use Rattle.importing.specs.declared.Imported.{Imported}
-use Rattle.importing.specs.declared.Imported.TheVariants as i
 use Rattle.importing.specs.Answered as importing_answer
-use Rattle.exporting.specs.declared.Exported.{Exported}
-use Rattle.exporting.specs.declared.Exported.TheVariants as x
 use Rattle.exporting.specs.Answered as exporting_answer
 use Rattle.exporting.proofs.Exportable.{Exportable, exportable}
 use Rattle.labelling.specs.declared.Labelled.{Labelled}
-use Rattle.labelling.specs.declared.Labelled.TheVariants as c
 use Rattle.labelling.specs.Answered as labelling_answer
 use Rattle.remote.specs.declared.RemoteFound.{RemoteFound}
-use Rattle.remote.specs.declared.RemoteFound.TheVariants as m
 use Rattle.remote.specs.Answered as remote_answer
 use Rattle.band_counts.specs.Counted.{counts_in}
 use Rattle.band_counts.proofs.Places.{counts_in_lem}
-use Rattle.banding.specs.declared.Banded.{Banded}
-use Rattle.banding.specs.declared.Banded.TheVariants as n
 use Rattle.banding.specs.Answered as banding_answer
-use Rattle.pairing.specs.declared.PairFound.{PairFound}
-use Rattle.pairing.specs.declared.PairFound.TheVariants as p
+use Rattle.pairing.specs.declared.Paired.{Paired}
+use Rattle.pair_search.specs.declared.turns.Whose.{Whose}
+use Rattle.pair_search.specs.declared.turns.Whose.TheVariants as whose
 use Rattle.pairing.specs.Answered as pairing_answer
 use Rattle.limiting.specs.declared.Limited.{Limited}
-use Rattle.limiting.specs.declared.Limited.TheVariants as g
 use Rattle.limiting.specs.Answered as limiting_answer
-use Rattle.clipping.specs.declared.Clipped.{Clipped}
-use Rattle.clipping.specs.declared.Clipped.TheVariants as v
 use Rattle.clipping.specs.Answered as clipping_answer
 use Rattle.demands.specs.Did.{WithTables, ToWrite, ToAdd, ToSearch, CallMade, Exchange, Made, Did, by_open, by_nearest, by_write, by_read, by_list, by_import, by_export}
 use Rattle.demands.specs.Did.{by_check, by_batch, by_add_labelled, by_label, by_remote, by_bands, by_pair_factory, by_pair_bench, by_limited, by_clipped}
@@ -189,33 +167,33 @@ record Said {R Beside : Type 0} (outcome_by : R → Beside → Outcome) (o : Out
   pub is : outcome_by result beside ≡ o
 
 opening_said : (t : Tables) (m : Measures) (o : Option word.Refusal) → let e = unless_refused o t [] (opens t m) in
-    Said (λ (r : Opened) (l : List ℕ). outcome (opening_answer.answer_by r) e.after []) e
+    Said (λ (r : Result ⊤ Refusal) (l : List ℕ). outcome (opening_answer.answer_by r) e.after []) e
 unfolding unless_refused opens opening_answer.answer_by
-opening_said t m (some why) = record { result = o.Refused (case_of why); beside = []; is = rw (case_word why) }
-opening_said t m none = record { result = o.Done; beside = []; is = refl }
+opening_said t m (some why) = record { result = Err (case_of why); beside = []; is = rw (case_word why) }
+opening_said t m none = record { result = Ok tt; beside = []; is = refl }
 
 reading_said : (t : Tables) (bytes : List ℕ) (o : Option word.Refusal) → let e = unless_refused o t [] (reads t bytes) in
-    Said (λ (r : Read) (l : List ℕ). outcome (reading_answer.answer_by r) e.after []) e
+    Said (λ (r : Result ⊤ Refusal) (l : List ℕ). outcome (reading_answer.answer_by r) e.after []) e
 unfolding unless_refused reads reading_answer.answer_by
-reading_said t bytes (some why) = record { result = d.Refused (case_of why); beside = []; is = rw (case_word why) }
-reading_said t bytes none = record { result = d.Done; beside = []; is = refl }
+reading_said t bytes (some why) = record { result = Err (case_of why); beside = []; is = rw (case_word why) }
+reading_said t bytes none = record { result = Ok tt; beside = []; is = refl }
 
 adding_said : (t : Tables) (x : Trace) (l : Label) (o : Option word.Refusal) → let e = unless_refused o t [] (adds t x l) in
-    Said (λ (r : Added) (beside : List ℕ). outcome (adding_answer.answer_by r)
+    Said (λ (r : Result ℕ Refusal) (beside : List ℕ). outcome (adding_answer.answer_by r)
     (labelled_tables e.after.control e.after.samples e.after.nodes e.after.links t.work e.after.labels) []) e
 unfolding unless_refused adds added_to adding_answer.answer_by
-adding_said t x l (some why) = record { result = a.Refused (case_of why); beside = []; is = rw (case_word why) }
-adding_said t x l none = record { result = a.At (trace_count t); beside = []; is = refl }
+adding_said t x l (some why) = record { result = Err (case_of why); beside = []; is = rw (case_word why) }
+adding_said t x l none = record { result = Ok (trace_count t); beside = []; is = refl }
 
 -- the trail that code answers is as long as it counts
 matching_said : (t : Tables) (query : Trace) (trail : List ℕ) (o : Option word.Refusal)
     → let e = unless_refused o t (trail ∷ []) (matches t query trail) in
-    Said (λ (r : Found) (l : List ℕ). outcome (matching_answer.answer_by r l)
+    Said (λ (r : Result Found Refusal) (l : List ℕ). outcome (matching_answer.answer_by r l)
     (labelled_tables t.control t.samples t.nodes t.links e.after.work t.labels) (l ∷ [])) e
 unfolding unless_refused matching_answer.answer_by
-matching_said t query trail (some why) = record { result = f.Refused (case_of why); beside = trail; is = rw (case_word why) }
+matching_said t query trail (some why) = record { result = Err (case_of why); beside = trail; is = rw (case_word why) }
 matching_said t query trail none = record {
-  result = f.At (m).trace (m).distance (m).leaves (m).traces;
+  result = Ok record { trace = (m).trace; distance = (m).distance; leaves = (m).leaves; traces = (m).traces };
   beside = over (m).trail trail;
   is = rw (take_at (m).trail (drop (length (m).trail) trail) (m).leaves refl);
 }
@@ -225,12 +203,18 @@ matching_said t query trail none = record {
 
 remote_said : (t : Tables) (query : Trace) (trail : List ℕ) (o : Option word.Refusal)
     → let e = unless_refused o t (trail ∷ []) (remotes t query trail) in
-    Said (λ (r : RemoteFound) (l : List ℕ). outcome (remote_answer.answer_by r l)
+    Said (λ (r : Result RemoteFound Refusal) (l : List ℕ). outcome (remote_answer.answer_by r l)
     (labelled_tables t.control t.samples t.nodes t.links e.after.work t.labels) (l ∷ [])) e
 unfolding unless_refused remote_answer.answer_by
-remote_said t query trail (some why) = record { result = m.Refused (case_of why); beside = trail; is = rw (case_word why) }
+remote_said t query trail (some why) = record { result = Err (case_of why); beside = trail; is = rw (case_word why) }
 remote_said t query trail none = record {
-  result = m.At found.trace found.distance found.leaves found.traces (get_or (codes_of (labels_in t)) found.trace 0);
+  result = Ok record {
+    trace = found.trace;
+    distance = found.distance;
+    leaves = found.leaves;
+    traces = found.traces;
+    code = get_or (codes_of (labels_in t)) found.trace 0;
+  };
   beside = over found.trail trail;
   is = rw (take_at found.trail (drop (length found.trail) trail) found.leaves refl);
 }
@@ -239,11 +223,11 @@ remote_said t query trail none = record {
     found = let s = searched (traces_in t) (tree_in t) query in match_seen s s.best
 
 writing_said : (t : Tables) (sheet : List ℕ) (o : Option word.Refusal) → let e = unless_refused o t (sheet ∷ []) (writes t sheet) in
-    Said (λ (r : Written) (l : List ℕ). outcome (writing_answer.answer_by r l) t (l ∷ [])) e
+    Said (λ (r : Result ℕ Refusal) (l : List ℕ). outcome (writing_answer.answer_by r l) t (l ∷ [])) e
 unfolding unless_refused writes writing_answer.answer_by
-writing_said t sheet (some why) = record { result = w.Refused (case_of why); beside = sheet; is = rw (case_word why) }
+writing_said t sheet (some why) = record { result = Err (case_of why); beside = sheet; is = rw (case_word why) }
 writing_said t sheet none = record {
-  result = w.Blocks blocks;
+  result = Ok blocks;
   beside = over bytes sheet;
   is = rw
       (take_at bytes (drop (length bytes) sheet) (block_size * blocks) size);
@@ -260,12 +244,12 @@ writing_said t sheet none = record {
 
 listing_said : (t : Tables) (k : ℕ) (query : Trace) (trail list : List ℕ) (o : Option word.Refusal)
     → let e = unless_refused o t (trail ∷ list ∷ []) (lists t k query trail list) in
-    Said (λ (r : Listed) (b : List ℕ × List ℕ). outcome (listing_answer.answer_by r b.0 b.1)
+    Said (λ (r : Result Listed Refusal) (b : List ℕ × List ℕ). outcome (listing_answer.answer_by r b.0 b.1)
     (labelled_tables t.control t.samples t.nodes t.links e.after.work t.labels) (b.0 ∷ b.1 ∷ [])) e
 unfolding unless_refused listing_answer.answer_by k_nearest_by_steps
-listing_said t k query trail list (some why) = record { result = l.Refused (case_of why); beside = (trail, list); is = rw (case_word why) }
+listing_said t k query trail list (some why) = record { result = Err (case_of why); beside = (trail, list); is = rw (case_word why) }
 listing_said t k query trail list none = record {
-  result = l.Found (m).leaves (m).traces (length (m).list);
+  result = Ok record { leaves = (m).leaves; traces = (m).traces; many = length (m).list };
   beside = (over (m).trail trail, over (list_places (m).list) list);
   is = rw (
     take_at (m).trail (drop (length (m).trail) trail) (m).leaves refl,
@@ -278,11 +262,11 @@ listing_said t k query trail list none = record {
 
 banding_said : (t : Tables) (query : Trace) (edges list : List ℕ) (o : Option word.Refusal)
     → let e = unless_refused o t (list ∷ []) (bands t query edges list) in
-    Said (λ (r : Banded) (l : List ℕ). outcome (banding_answer.answer_by r (length edges - 1) l)
+    Said (λ (r : Result ⊤ Refusal) (l : List ℕ). outcome (banding_answer.answer_by r (length edges - 1) l)
     (labelled_tables t.control t.samples t.nodes t.links e.after.work t.labels) (l ∷ [])) e
 unfolding unless_refused banding_answer.answer_by
-banding_said t query edges list (some why) = record { result = n.Refused (case_of why); beside = list; is = rw (case_word why) }
-banding_said t query edges list none = record { result = n.Reported; beside = over (report_places report) list; is = rw back }
+banding_said t query edges list (some why) = record { result = Err (case_of why); beside = list; is = rw (case_word why) }
+banding_said t query edges list none = record { result = Ok tt; beside = over (report_places report) list; is = rw back }
   where
     report : List BandCount
     report = band_report (tree_in t) query edges
@@ -292,9 +276,19 @@ banding_said t query edges list none = record { result = n.Reported; beside = ov
         (counts_in_lem report (drop (length (report_places report)) list))
 
 -- what a match over two libraries found, as code has it
-abbrev pair_found : Which → PairMatch → PairFound
-pair_found of_factory m = p.Factory (m).trace (m).distance (length (m).factory_trail) (length (m).bench_trail) (m).traces
-pair_found of_bench m = p.Bench (m).trace (m).distance (length (m).factory_trail) (length (m).bench_trail) (m).traces
+abbrev whose_by : Which → Whose
+whose_by of_factory = whose.Factory
+whose_by of_bench = whose.Bench
+
+abbrev pub pair_found : Which → PairMatch → Result Paired Refusal
+pair_found which m = Ok record {
+  library = whose_by which;
+  trace = (m).trace;
+  distance = (m).distance;
+  leaves = length (m).factory_trail;
+  bench_leaves = length (m).bench_trail;
+  traces = (m).traces;
+}
 
 -- each trail that code answers is as long as it counts
 found_is : (which : Which) (m : PairMatch) → (m).which ≡ which → (m).leaves ≡ length (m).factory_trail + length (m).bench_trail
@@ -316,11 +310,11 @@ found_is of_bench m is counted trail trail' = rw (
 
 pairing_said : (f b : Tables) (query : Trace) (trail trail' : List ℕ) (o : Option word.Refusal)
     → let e = unless_refused o f (trail ∷ trail' ∷ b.work ∷ []) (pairs f of_factory (other_in b trail') query trail) in
-    Said (λ (r : PairFound) (l : List ℕ × (List ℕ × List ℕ)). outcome (pairing_answer.answer_by r l.0 l.1.0)
+    Said (λ (r : Result Paired Refusal) (l : List ℕ × (List ℕ × List ℕ)). outcome (pairing_answer.answer_by r l.0 l.1.0)
     (with_work f e.after.work) (l.0 ∷ l.1.0 ∷ l.1.1 ∷ [])) e
 unfolding unless_refused pairs paired_with pair_beside other_in pairing_answer.answer_by
 pairing_said f b query trail trail' (some why) =
-    record { result = p.Refused (case_of why); beside = (trail, (trail', b.work)); is = rw (case_word why) }
+    record { result = Err (case_of why); beside = (trail, (trail', b.work)); is = rw (case_word why) }
 pairing_said f b query trail trail' none = record {
   result = pair_found (m).which m;
   beside = (over (m).factory_trail trail, (over (m).bench_trail trail', (cleared b).work));
@@ -338,10 +332,10 @@ pairing_said f b query trail trail' none = record {
 
 limiting_said : (t : Tables) (most : ℕ) (query : Trace) (trail : List ℕ) (o : Option word.Refusal)
     → let e = unless_refused o t (trail ∷ []) (limits t most query trail) in
-    Said (λ (r : Limited) (l : List ℕ). outcome (limiting_answer.answer_by r l)
+    Said (λ (r : Result Limited Refusal) (l : List ℕ). outcome (limiting_answer.answer_by r l)
     (labelled_tables t.control t.samples t.nodes t.links e.after.work t.labels) (l ∷ [])) e
-unfolding unless_refused limiting_answer.answer_by limited_by_steps limited_from
-limiting_said t most query trail (some why) = record { result = g.Refused (case_of why); beside = trail; is = rw (case_word why) }
+unfolding unless_refused limiting_answer.answer_by limiting_answer.limited_by limited_by_steps limited_from
+limiting_said t most query trail (some why) = record { result = Err (case_of why); beside = trail; is = rw (case_word why) }
 limiting_said t most query trail none = by (next_bound s.best (drop (length s.trail) (reading_order (tree_in t) query)))
   where
     s : Search
@@ -355,20 +349,27 @@ limiting_said t most query trail none = by (next_bound s.best (drop (length s.tr
 
     -- settled or not
     by : (next : Option ℕ)
-        → Said (λ (r : Limited) (l : List ℕ). outcome (limiting_answer.answer_by r l)
+        → Said (λ (r : Result Limited Refusal) (l : List ℕ). outcome (limiting_answer.answer_by r l)
         (labelled_tables t.control t.samples t.nodes t.links (cleared t).work t.labels) (l ∷ []))
         (outcome (answering (limited (limited_from m next))) (cleared t) (over (match_so_far (limited_from m next)).trail trail ∷ []))
-    by none = record { result = g.Settled (m).trace (m).distance (m).leaves (m).traces; beside = over (m).trail trail; is = rw back }
-    by (some next) =
-        record { result = g.Open (m).trace (m).distance (m).leaves (m).traces next; beside = over (m).trail trail; is = rw back }
+    by none = record {
+      result = Ok record { trace = (m).trace; distance = (m).distance; leaves = (m).leaves; traces = (m).traces; unread = None };
+      beside = over (m).trail trail;
+      is = rw back;
+    }
+    by (some next) = record {
+      result = Ok record { trace = (m).trace; distance = (m).distance; leaves = (m).leaves; traces = (m).traces; unread = Some next };
+      beside = over (m).trail trail;
+      is = rw back;
+    }
 
 clipping_said : (t : Tables) (lows highs : Trace) (list : List ℕ) (o : Option word.Refusal)
     → let e = unless_refused o t (list ∷ []) (clips t lows highs list) in
-    Said (λ (r : Clipped) (l : List ℕ). outcome (clipping_answer.answer_by r l)
+    Said (λ (r : Result ℕ Refusal) (l : List ℕ). outcome (clipping_answer.answer_by r l)
     (labelled_tables t.control t.samples t.nodes t.links e.after.work t.labels) (l ∷ [])) e
 unfolding unless_refused clipping_answer.answer_by
-clipping_said t lows highs list (some why) = record { result = v.Refused (case_of why); beside = list; is = rw (case_word why) }
-clipping_said t lows highs list none = record { result = v.Possible (m).count; beside = over (m).list list; is = rw back }
+clipping_said t lows highs list (some why) = record { result = Err (case_of why); beside = list; is = rw (case_word why) }
+clipping_said t lows highs list none = record { result = Ok (m).count; beside = over (m).list list; is = rw back }
   where
     m : Possible
     m = possible_matches (traces_in t) lows highs
@@ -377,16 +378,16 @@ clipping_said t lows highs list none = record { result = v.Possible (m).count; b
     back = take_at (m).list (drop (length (m).list) list) (m).count (sym (listed_anywhere (traces_in t) lows highs).counted)
 
 importing_said : (t : Tables) (bytes : List ℕ) (o : Option word.Refusal) → let e = unless_refused o t [] (imports t bytes) in
-    Said (λ (r : Imported) (l : List ℕ). outcome (importing_answer.answer_by r)
+    Said (λ (r : Result ℕ Refusal) (l : List ℕ). outcome (importing_answer.answer_by r)
     (labelled_tables e.after.control e.after.samples e.after.nodes e.after.links t.work e.after.labels) []) e
 unfolding unless_refused imports importing_answer.answer_by
-importing_said t bytes (some why) = record { result = i.Refused (case_of why); beside = []; is = rw (case_word why) }
+importing_said t bytes (some why) = record { result = Err (case_of why); beside = []; is = rw (case_word why) }
 importing_said t bytes none =
     let traces = file_traces (judge_recording (measures_of t).n bytes) in
     let zeros = replicate (length traces) no_label in
     let after = added_with t traces zeros in
     record {
-      result = i.Traces (length traces);
+      result = Ok (length traces);
       beside = [];
       is = ap (λ (work : List ℕ). outcome (answering (imported (length traces)))
           (labelled_tables after.control after.samples after.nodes after.links work after.labels) [])
@@ -396,11 +397,11 @@ importing_said t bytes none =
 exporting_said : (t : Tables) (number rate : ℕ) (buffer : List ℕ) (o : Option word.Refusal)
     → first_of (exports t number rate buffer).conditions ≡ o
     → let e = unless_refused o t (buffer ∷ []) (exports t number rate buffer) in
-    Said (λ (r : Exported) (l : List ℕ). outcome (exporting_answer.answer_by r l) t (l ∷ [])) e
+    Said (λ (r : Result ℕ Refusal) (l : List ℕ). outcome (exporting_answer.answer_by r l) t (l ∷ [])) e
 unfolding unless_refused exports exporting_answer.answer_by
-exporting_said t number rate buffer (some why) q = record { result = x.Refused (case_of why); beside = buffer; is = rw (case_word why) }
+exporting_said t number rate buffer (some why) q = record { result = Err (case_of why); beside = buffer; is = rw (case_word why) }
 exporting_said t number rate buffer none q = record {
-  result = x.Bytes (recording_size (measures_of t).n);
+  result = Ok (recording_size (measures_of t).n);
   beside = over bytes buffer;
   is = rw (take_at bytes (drop (length bytes) buffer) (recording_size (measures_of t).n) size);
 }
@@ -420,18 +421,18 @@ exporting_said t number rate buffer none q = record {
     )
 
 checking_said : (t : Tables) (o : Option word.Refusal) → let e = unless_refused o t [] (checks t) in
-    Said (λ (r : Checked) (l : List ℕ). outcome (checking_answer.answer_by r) t []) e
+    Said (λ (r : Result ⊤ Refusal) (l : List ℕ). outcome (checking_answer.answer_by r) t []) e
 unfolding unless_refused checks checking_answer.answer_by
-checking_said t (some why) = record { result = k.Refused (case_of why); beside = []; is = rw (case_word why) }
-checking_said t none = record { result = k.Accepted; beside = []; is = refl }
+checking_said t (some why) = record { result = Err (case_of why); beside = []; is = rw (case_word why) }
+checking_said t none = record { result = Ok tt; beside = []; is = refl }
 
 labelling_said : (t : Tables) (number : ℕ) (o : Option word.Refusal) → let e = unless_refused o t [] (tells_label t number) in
-    Said (λ (r : Labelled) (l : List ℕ). outcome (labelling_answer.answer_by r) t []) e
+    Said (λ (r : Result Labelled Refusal) (l : List ℕ). outcome (labelling_answer.answer_by r) t []) e
 unfolding unless_refused tells_label labelling_answer.answer_by
-labelling_said t number (some why) = record { result = c.Refused (case_of why); beside = []; is = rw (case_word why) }
+labelling_said t number (some why) = record { result = Err (case_of why); beside = []; is = rw (case_word why) }
 labelling_said t number none =
     let l = get_or (labels_in t) number no_label in
-    record { result = c.Label l.code l.serial; beside = []; is = refl }
+    record { result = Ok record { code = l.code; serial = l.serial }; beside = []; is = refl }
 
 leaves_are : (stored : List Trace) (tree : Tree) (queries : List Trace)
     → length (batch_by_steps stored tree queries).trail ≡ (batch_by_steps stored tree queries).leaves
@@ -460,7 +461,7 @@ batch_done : (t : Tables) (many : ℕ) (run : Trace) (trail : List ℕ) (l : Lis
     → first_of (made_conditions t ++ batch_conditions_in t many (length l) run trail) ≡ none → length l ≡ many
     → let m = batch_by_steps (traces_in t) (tree_in t) (queries_in (measures_of t).n many run) in
     let list = list_by many (list_places (m).answers) l in
-    outcome (batching_answer.answer_by (b.Done (m).leaves) list (over (m).trail trail))
+    outcome (batching_answer.answer_by (Ok (m).leaves) list (over (m).trail trail))
     (labelled_tables t.control t.samples t.nodes t.links (cleared t).work t.labels) (over (m).trail trail ∷ list_places list ∷ [])
     ≡ outcome_on (batching many run trail l) t
 unfolding batching_answer.answer_by outcome_on effect_of beside_of unless_refused
@@ -479,14 +480,14 @@ batching_said : (t : Tables) (many : ℕ) (run : Trace) (trail : List ℕ) (list
     BatchSaid t many run trail (length list) e.after.work
 unfolding unless_refused found_by
 batching_said t many run trail list (some why) q = record {
-  found = record { outcome = b.Refused (case_of why); count = 0; bests = [] };
+  found = record { outcome = Err (case_of why); count = 0; bests = [] };
   trail' = trail;
   is = λ l size.
       batch_refused t.control t.samples t.nodes t.links t.work t.labels many run trail l (case_of why) []
       (ap (λ (p : ℕ). first_of (made_conditions t ++ batch_conditions_in t many p run trail)) size ∙ q ∙ ap some (sym (case_word why)));
 }
 batching_said t many run trail list none q = record {
-  found = record { outcome = b.Done (m).leaves; count = many; bests = list_places (m).answers };
+  found = record { outcome = Ok (m).leaves; count = many; bests = list_places (m).answers };
   trail' = over (m).trail trail;
   is = λ l size.
       batch_done t many run trail l (ap (λ (p : ℕ). first_of (made_conditions t ++ batch_conditions_in t many p run trail)) size ∙ q)

@@ -12,7 +12,7 @@ use lib.Signed.{lt_z, le_z, lt_z_yes, lt_z_no, le_z_yes}
 use lib.Dec.{T}
 use Rattle.integer.specs.Words.{every}
 use Rattle.integer.proofs.Order.{◌<ℤ◌, ◌≤ℤ◌, ≤ℤ→, <ℤ→, →<ℤ}
-use Rattle.integer.proofs.Lists.{In, later, in_cons, in_nil, in_append, every_of, from_every}
+use Rattle.integer.proofs.Lists.{In, in_cons, in_nil, in_append, every_of, from_every}
 use Rattle.dstree.specs.Adding.{Split, best_by}
 use Rattle.dstree.specs.Claims.{Wins, Winning}
 

@@ -7,7 +7,7 @@ use native.Mathlib.Decide.{dec_le}
 use native.Mathlib.Nat.{suc-mul, zero-mul, lt_of_not-le, le_of_lt, sub-zero, min-le_left}
 use lib.ListN.{length, get_or, take, drop, replicate, length-append, length-take, length-drop}
 use lib.ListN.{length-replicate, take-append-drop, replicate-append-replicate, drop_of_length-le}
-use lib.Seq.{take_at, drop_at, take_all, take-add, take-take, drop-drop, drop-cons, drop-append-add, get_or-take, get_or-drop, length-take-le}
+use lib.Seq.{take_at, drop_at, take_all, take-add, take-take, drop-drop, drop-append-add, get_or-take, get_or-drop, length-take-le}
 use Rattle.integer.proofs.Lists.{drop_take, All, all_none, all_more, all_take, all_drop, all_replicate}
 use Rattle.dstree.specs.Sheet.{part, pieces, filled_to}
 
@@ -127,14 +127,6 @@ module _ {A : Type 0} where
 
   pub part_at : (i place size : ℕ) (l : List A) (d : A) → i < size → get_or (part place size l) i d ≡ get_or l (place + i) d
   part_at i place size l d h = get_or-take size (drop place l) i d h ∙ get_or-drop place l i d
-
-  -- one element, and the part behind it
-  pub part_cons : (place to : ℕ) (l : List A) (d : A) → place < to → place < length l
-      → part place (to - place) l ≡ get_or l place d ∷ part (suc place) (to - suc place) l
-  part_cons place to l d h k = let e : to - place ≡ suc (to - suc place) = omega arith in rw (e, drop-cons l place d k)
-
-  pub part_none : (place to : ℕ) (l : List A) → to ≤ place → part place (to - place) l ≡ []
-  part_none place to l h = let e : to - place ≡ 0 = omega arith in rw e
 
   pub part_length : (place k : ℕ) (xs : List A) → place + k ≤ length xs → length (part place k xs) ≡ k
   part_length place k xs h = length-take-le k (drop place xs) (rw (length-drop place xs) (omega arith))

@@ -4,7 +4,6 @@ use Rattle.std.proofs.Math.Option.{Option, none, some}
 use mathlib.Core.List.{List, [], ◌∷◌, ◌++◌, map, foldl, flatten}
 use Rattle.integer.specs.Words.{total, counting, those, is_in}
 use Rattle.integer.specs.Sorting.{sorted_with, sorted_by, at_place}
-use Rattle.segment.specs.Figures.{distance}
 use Rattle.dstree.specs.Measures.{Trace, within}
 use Rattle.dstree.specs.Node.{Tree, node_at}
 use Rattle.dstree.specs.Adding.{traces_of}

@@ -1,12 +1,12 @@
 -- The parts of a list, one after another: behind a part come the parts of what is left.
-use Prim.Native.Nat.{ℕ, zero, suc, ◌+◌, ◌-◌, ◌≤◌, ◌<◌}
+use Prim.Native.Nat.{ℕ, zero, suc, min, ◌≤◌, ◌<◌}
 use mathlib.Core.Path.{◌≡◌, refl, sym, ap, ap₂, ◌∙◌}
-use mathlib.Core.Logic.{inl, inr}
-use mathlib.Core.List.{List, [], ◌∷◌}
+use mathlib.Core.List.{List, [], ◌∷◌, ◌++◌}
 use native.Mathlib.Omega.{arith}
-use lib.ListN.{length, take, drop, length-drop, drop_of_length-le}
-use lib.Seq.{drop-drop, take_all}
-use Rattle.examples.specs.Steps.{parts_by, parts, PartEnd}
+use lib.ListN.{length, take, drop, length-drop}
+use lib.Seq.{take-append_seam, drop-append_seam}
+use Rattle.std.proofs.lemmas.List.{take_min, drop_min}
+use Rattle.examples.specs.Steps.{parts_by, parts}
 
 none_of : {A : Type 0} (most n : ℕ) → parts_by {A = A} most n [] ≡ []
 unfolding parts_by
@@ -32,17 +32,15 @@ module _ {A : Type 0} (n : ℕ) (some : 0 < n) where
       ap (λ (rest : List (List A)). take n (x ∷ l) ∷ rest)
       (enough (length l) (length (drop n (x ∷ l))) (drop n (x ∷ l)) (simp length-drop (omega arith)) (omega arith))
 
-  pub next_part : (at end : ℕ) (l : List A) → at < length l → PartEnd (length l) at n end
-      → parts n (drop at l) ≡ take (end - at) (drop at l) ∷ parts n (drop end l)
-  next_part at end l h p =
-      first_part (drop at l) (simp length-drop (omega arith)) ∙ ap₂ (λ (a b : List A). a ∷ parts n b) (cut p) (behind p)
-    where
-      cut : PartEnd (length l) at n end → take n (drop at l) ≡ take (end - at) (drop at l)
-      cut (inl (e, g)) = let z : n ≡ end - at = omega arith in ap (λ (k : ℕ). take k (drop at l)) z
-      cut (inr (e, g)) =
-          take_all n (drop at l) (simp length-drop (omega arith)) ∙ sym (take_all (end - at) (drop at l) (simp length-drop (omega arith)))
+  -- a chunk, and what is left
+  pub next_part : (l x rest : List A) → l ≡ x ++ rest → length x ≡ min n (length l) → 0 < length l → parts n l ≡ x ∷ parts n rest
+  next_part l x rest e m h =
+      first_part l h
+      ∙ ap₂ (λ (a b : List A). a ∷ parts n b)
+      (sym (take_min n l) ∙ (ap (λ (k : ℕ). take k l) (sym m) ∙ (ap (take (length x)) e ∙ take-append_seam x rest)))
+      (sym (drop_min n l) ∙ (ap (λ (k : ℕ). drop k l) (sym m) ∙ (ap (drop (length x)) e ∙ drop-append_seam x rest)))
 
-      behind : PartEnd (length l) at n end → drop n (drop at l) ≡ drop end l
-      behind (inl (e, g)) = drop-drop n at l ∙ ap (λ (k : ℕ). drop k l) (sym e)
-      behind (inr (e, g)) =
-          drop-drop n at l ∙ (drop_of_length-le l {i = at + n} g ∙ sym (drop_of_length-le l {i = end} (omega arith)))
+  pub no_part : (l : List A) → length l ≡ 0 → parts n l ≡ []
+  unfolding parts_by
+  no_part [] e = refl
+  no_part (x ∷ l) e = absurd (omega arith)

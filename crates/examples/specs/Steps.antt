@@ -1,5 +1,5 @@
 -- What the steps of an example begin with, and what is done to a sheet.
-use Rattle.std.specs.Prelude.{ℕ, zero, suc, ◌+◌, ◌≤◌, ◌<◌, ◌≡◌, ◌⊎◌, pos, negsuc, length, set, take, drop, replicate}
+use Rattle.std.specs.Prelude.{ℕ, zero, suc, pos, negsuc, length, set, take, drop, replicate}
 use mathlib.Core.List.{List, [], ◌∷◌, foldl}
 use Rattle.std.proofs.lemmas.List.Edits.{sets}
 use Rattle.dstree.specs.Measures.{Trace, measures}
@@ -44,10 +44,6 @@ parts_by (suc most) n (x ∷ l) = take n (x ∷ l) ∷ parts_by most n (drop n (
 
 abbrev pub parts : {A : Type 0} → ℕ → List A → List (List A)
 parts n l = parts_by (length l) n l
-
--- a part ends n places on, or where the list ends
-abbrev pub PartEnd : ℕ → ℕ → ℕ → ℕ → Type 0
-PartEnd length at n end = ((end ≡ at + n) × (end < length)) ⊎ ((end ≡ length) × (length ≤ at + n))
 
 -- what addings leave, what matches leave, and what sheets leave that are read, each with a match of the trace behind it
 abbrev pub added_each : Tables → List Trace → Tables

@@ -1,91 +1,64 @@
 // The examples of document 01, and some of document 02, run: what each call answers, held to the file stdout; walks along a leaf, and
-// distances with a limit. A step answers values, with a contract (`steps`); here the steps are put together, and printed. A function
-// that prints alone, in memory of its own, has no contract.
+// distances with a limit. A step answers values, with a contract (`steps`); here the steps are put together, and printed. Most functions
+// that print alone, in memory of their own, have no contract.
 #![tactic(auto)]
 
-mod screen; // standard output
 mod steps; // traces added, queries matched, a sheet written
 mod walks; // a candidate's test, along a leaf
 
-ghost use Rattle.std.specs.Prelude.{◌≡◌, [], ◌∷◌, ◌<◌, ◌≤◌, length};
+ghost use Rattle.std.specs.Prelude.{◌≡◌, [], ◌∷◌, ◌<◌, ◌≤◌, length, IsErr};
 ghost use Rattle.dstree.specs.Book.{writing};
 ghost use Rattle.dstree.specs.Measures.{most_samples};
 ghost use Rattle.tables.specs.Lent.{tables_after, tables_after_adding, tables_after_search, tables_before_adding, tables_before_all, tables_before_search};
 ghost use Rattle.calls.specs.Effects.{outcome_on};
-ghost use Rattle.examples.specs.Steps.{starred_in, junk, damaged, parts, PartEnd};
+ghost use Rattle.examples.specs.Steps.{starred_in, junk, damaged, parts};
 ghost use Rattle.examples.specs.Steps.{added_each, matched_each, read_matched, read_each};
 
-use crate::screen::Screen;
 use crate::steps::{AddingStep, MatchStep, add_to, match_of, put_starred};
 use crate::walks::{nine, twins};
-use adding::Added;
 use candidate::parting::Look;
 use matching::Found;
-use opening::Opened;
+use screens::Screen;
 use segment::within::Distance;
 use segment::{Sample, Word};
 use sheet::fields::put_bytes;
-use sheet::samples::magnitude;
-use sheet_reading::Read;
-use sheet_writing::Written;
 use std::alloc::{AllocError, Global};
 use std::io;
 use tables::Refusal;
-use tables::numbers::wider;
 
-// ---- answers as text, on standard output. What is written there is no value that a contract can name, so that nothing here has one;
-// each line is held to the file stdout when the program is run
+// ---- answers as text, on standard output. What is written there is no value that a contract can name; each line is held to the file stdout
+// when the program is run
 
-// Words, and a number behind them.
-fn item(out: &mut Screen, words: &[u8], n: u64) {
-    out.write_all(words);
-    print!(out; "{n}");
+fn print_refusal(out: &mut Screen, why: Refusal)
+    ensures { IsErr out.old.written → out.new.written ≡ out.old.written }
+{
+    let number = tables::answers::number(why);
+    let place = tables::answers::place(why);
+    print!(out; "refused {number} {place}");
 }
 
-fn line_end(out: &mut Screen) {
+// Of a call that answers only that it succeeded.
+fn print_done(out: &mut Screen, done: &str, answer: Result<(), Refusal>) {
+    match answer {
+        Ok(()) => print!(out; "{done}"),
+        Err(why) => print_refusal(out, why),
+    }
     println!(out);
 }
 
-fn print_refusal(out: &mut Screen, why: Refusal) {
-    item(out, b"refused ", tables::answers::number(why));
-    item(out, b" ", tables::answers::place(why));
-}
-
-fn print_opening(out: &mut Screen, answer: Opened) {
-    match answer {
-        Opened::Done => {
-            print!(out; "opened");
-        }
-        Opened::Refused(why) => print_refusal(out, why),
-    }
-    line_end(out);
-}
-
 fn print_adding(out: &mut Screen, step: AddingStep) {
-    let answer = step.answer;
+    let AddingStep { answer, nodes } = step;
     match answer {
-        Added::At(k) => item(out, b"added ", k),
-        Added::Refused(why) => print_refusal(out, why),
+        Ok(k) => print!(out; "added {k}"),
+        Err(why) => print_refusal(out, why),
     }
-    item(out, b"\n  nodes ", wider(step.nodes));
-    line_end(out);
-}
-
-// A sample behind a space.
-fn print_sample(out: &mut Screen, x: Sample) {
-    if x < 0 {
-        print!(out; " -{}", magnitude(x) + 1);
-    } else {
-        print!(out; " {}", magnitude(x));
-    }
+    println!(out; "\n  nodes {nodes}");
 }
 
 fn print_query(out: &mut Screen, samples: &[Sample]) {
     print!(out; "match");
-    let mut i: usize = 0;
-    while i < samples.len() {
-        print_sample(out, samples[i]);
-        i += 1;
+    for x in samples {
+        print!(out; " {}", *x);
     }
     print!(out; ": ");
 }
@@ -93,77 +66,61 @@ fn print_query(out: &mut Screen, samples: &[Sample]) {
 // The leaves read, which the trail begins with.
 fn print_trail(out: &mut Screen, trail: &[u16], leaves: u64) {
     print!(out; " trail");
-    let mut i: usize = 0;
-    while i < trail.len() {
-        if (i as u64) < leaves {
-            item(out, b" ", wider(trail[i]));
-        }
-        i += 1;
+    for node in trail.iter().take(leaves as usize) {
+        print!(out; " {}", *node);
     }
 }
 
 fn print_match(out: &mut Screen, step: MatchStep) {
-    let answer = step.answer;
-    let trail = step.trail;
+    let MatchStep { answer, trail } = step;
     match answer {
-        Found::At(trace, distance, leaves, traces) => {
-            item(out, b"trace ", trace);
-            item(out, b" distance ", distance);
-            item(out, b" leaves ", leaves);
-            item(out, b" traces ", traces);
+        Ok(
+            Found {
+                trace,
+                distance,
+                leaves,
+                traces,
+            },
+        ) => {
+            print!(out; "trace {trace} distance {distance} leaves {leaves} traces {traces}");
             print_trail(out, &trail, leaves);
         }
-        Found::Refused(why) => print_refusal(out, why),
+        Err(why) => print_refusal(out, why),
     }
-    line_end(out);
+    println!(out);
 }
 
 // "Bytes 510 to 511" of block 0 and of block 1.
 fn print_checks(out: &mut Screen, sheet: &[u8]) {
     if 1024 <= sheet.len() {
-        item(out, b" checks ", sheet::fields::two_bytes(sheet, 510));
-        item(out, b" ", sheet::fields::two_bytes(sheet, 1022));
+        let first = sheet::fields::two_bytes(sheet, 510);
+        let second = sheet::fields::two_bytes(sheet, 1022);
+        print!(out; " checks {first} {second}");
     }
 }
 
-fn print_writing(out: &mut Screen, answer: Written, sheet: &[u8]) {
+fn print_writing(out: &mut Screen, answer: Result<u64, Refusal>, sheet: &[u8]) {
     match answer {
-        Written::Blocks(blocks) => {
-            item(out, b"blocks ", blocks);
+        Ok(blocks) => {
+            print!(out; "blocks {blocks}");
             print_checks(out, sheet);
         }
-        Written::Refused(why) => print_refusal(out, why),
+        Err(why) => print_refusal(out, why),
     }
-    line_end(out);
-}
-
-fn print_reading(out: &mut Screen, answer: Read) {
-    match answer {
-        Read::Done => {
-            print!(out; "done");
-        }
-        Read::Refused(why) => print_refusal(out, why),
-    }
-    line_end(out);
+    println!(out);
 }
 
 // Whether both sides were seen, and how many traces that took.
-fn print_walk(out: &mut Screen, words: &[u8], seen: Look) {
-    out.write_all(words);
-    if seen.both {
-        item(out, b"yes, took ", seen.taken as u64);
-    } else {
-        item(out, b"no, took ", seen.taken as u64);
-    }
-    line_end(out);
+fn print_walk(out: &mut Screen, words: &str, seen: Look) {
+    let both = if seen.both { "yes" } else { "no" };
+    println!(out; "{words}: {both}, took {}", seen.taken);
 }
 
 fn print_distance(out: &mut Screen, answer: Distance) {
     match answer {
-        Distance::Exact(d) => item(out, b"exact ", d),
-        Distance::Beyond(samples) => item(out, b"beyond ", samples as u64),
+        Distance::Exact(d) => println!(out; "exact {d}"),
+        Distance::Beyond(samples) => println!(out; "beyond {samples}"),
     }
-    line_end(out);
 }
 
 // ---- openings: "n 256, capacity 4,096, leaf size 64 open; 257, 4,097, 65 and 0 do not"
@@ -176,7 +133,7 @@ fn in_largest_tables(
     n: u64,
     capacity: u64,
     leaf_size: u64,
-) -> Result<Opened, AllocError> {
+) -> Result<Result<(), Refusal>, AllocError> {
     let mut control = [7u16; 5];
     let mut samples: Vec<Word> = vec![in alloc; 7; 1048576]?;
     let mut nodes: Vec<i64> = vec![in alloc; 7; 712617]?;
@@ -203,11 +160,12 @@ fn opening_of(
     capacity: u64,
     leaf_size: u64,
 ) -> Result<(), AllocError> {
-    item(out, b"open ", n);
-    item(out, b" ", capacity);
-    item(out, b" ", leaf_size);
-    print!(out; ": ");
-    print_opening(out, in_largest_tables(alloc, n, capacity, leaf_size)?);
+    print!(out; "open {n} {capacity} {leaf_size}: ");
+    print_done(
+        out,
+        "opened",
+        in_largest_tables(alloc, n, capacity, leaf_size)?,
+    );
     Ok(())
 }
 
@@ -232,17 +190,6 @@ fn run_openings(out: &mut Screen, alloc: Global) -> Result<(), AllocError> {
 
 // ---- libraries
 
-// Where the next `size` places end, or those that are left.
-fn part_end(length: usize, at: usize, size: usize) -> usize
-    requires { (at < length) × (0 < size) }
-    ensures { (at < result) × (result ≤ length) × PartEnd length at size result }
-{
-    if size < length - at {
-        return at + size;
-    }
-    length
-}
-
 // Every n samples added as a trace, the last ones even if they are fewer.
 fn add_all(
     out: &mut Screen,
@@ -260,22 +207,11 @@ fn add_all(
         ≡ added_each (tables_before_adding control samples nodes links work labels)
         (parts n traces.now) }
 {
-    let mut at: usize = 0;
-    while at < traces.len() {
-        let end = part_end(traces.len(), at, n);
+    for trace in traces.chunks(n) {
         print_adding(
             out,
-            add_to(
-                control,
-                samples,
-                nodes,
-                links,
-                work,
-                labels,
-                &traces[at..end],
-            ),
+            add_to(control, samples, nodes, links, work, labels, trace),
         );
-        at = end;
     }
 }
 
@@ -296,16 +232,12 @@ fn match_all(
         ≡ matched_each (tables_before_search control samples nodes links work labels)
         (parts n queries.now) }
 {
-    let mut at: usize = 0;
-    while at < queries.len() {
-        let end = part_end(queries.len(), at, n);
-        let query = &queries[at..end];
+    for query in queries.chunks(n) {
         print_query(out, query);
         print_match(
             out,
             match_of(control, samples, nodes, links, work, labels, query),
         );
-        at = end;
     }
 }
 
@@ -319,8 +251,9 @@ fn library(out: &mut Screen, n: u16, leaf_size: u64, traces: &[Sample], queries:
     let mut links = [7u16; 8];
     let mut work = [7u64; 15];
     let mut labels = [7u64; 8];
-    print_opening(
+    print_done(
         out,
+        "opened",
         opening::open(
             &mut control,
             &mut samples,
@@ -328,7 +261,7 @@ fn library(out: &mut Screen, n: u16, leaf_size: u64, traces: &[Sample], queries:
             &mut links,
             &mut work,
             &mut labels,
-            n as u64,
+            u64::from(n),
             8,
             leaf_size,
         ),
@@ -341,11 +274,19 @@ fn library(out: &mut Screen, n: u16, leaf_size: u64, traces: &[Sample], queries:
         &mut links,
         &work,
         &mut labels,
-        n as usize,
+        usize::from(n),
         traces,
     );
     match_all(
-        out, &control, &samples, &nodes, &links, &mut work, &labels, n as usize, queries,
+        out,
+        &control,
+        &samples,
+        &nodes,
+        &links,
+        &mut work,
+        &labels,
+        usize::from(n),
+        queries,
     );
 }
 
@@ -375,7 +316,7 @@ fn run_libraries(out: &mut Screen) {
 // ---- a sheet: written, read back into other tables and searched there; then read damaged
 
 // The starred example, written to a sheet with junk in every place.
-fn write_to(out: &mut Screen, sheet: &mut [u8], line: &[u8])
+fn write_to(out: &mut Screen, sheet: &mut [u8], words: &str)
     ensures { sheet.new ∷ [] ≡ (outcome_on (writing sheet.old) (starred_in junk)).beside }
 {
     let mut control = [7u16; 5];
@@ -395,18 +336,16 @@ fn write_to(out: &mut Screen, sheet: &mut [u8], line: &[u8])
     let answer = sheet_writing::write_sheet(
         &control, &samples, &nodes, &links, &work, &labels, sheet,
     );
-    out.write_all(line);
+    print!(out; "{words}: ");
     print_writing(out, answer, sheet);
 }
 
-// What is done to a sheet before it is read.
-fn reading_line(out: &mut Screen, number: usize) {
-    if number == 0 {
-        print!(out; "read: ");
-    } else if number == 1 {
-        print!(out; "read, a sample changed: ");
-    } else {
-        print!(out; "read, block 0 alone: ");
+// What was done to a sheet before it is read, by its place.
+fn words_of(place: usize) -> &'static str {
+    match place {
+        0 => "read",
+        1 => "read, a sample changed",
+        _ => "read, block 0 alone",
     }
 }
 
@@ -425,8 +364,9 @@ fn read_one(
         ≡ read_matched (tables_before_all control samples nodes links work labels)
         sheet.now }
 {
-    print_reading(
+    print_done(
         out,
+        "done",
         sheet_reading::read_sheet(control, samples, nodes, links, work, labels, sheet),
     );
     match_all(out, control, samples, nodes, links, work, labels, 1, &[-1]);
@@ -448,21 +388,9 @@ fn read_all(
         ≡ read_each (tables_before_all control samples nodes links work labels)
         (parts 1024 sheets.now) }
 {
-    let mut at: usize = 0;
-    while at < sheets.len() {
-        let end = part_end(sheets.len(), at, 1024);
-        reading_line(out, at / 1024);
-        read_one(
-            out,
-            control,
-            samples,
-            nodes,
-            links,
-            work,
-            labels,
-            &sheets[at..end],
-        );
-        at = end;
+    for (i, sheet) in sheets.chunks(1024).enumerate() {
+        print!(out; "{}: ", words_of(i));
+        read_one(out, control, samples, nodes, links, work, labels, sheet);
     }
 }
 
@@ -499,9 +427,9 @@ fn damage(sheet: &[u8], sheets: &mut [u8])
 
 fn run_sheets(out: &mut Screen) {
     let mut sheet = [7u8; 1024];
-    write_to(out, &mut sheet, b"write 1 8 2: ");
+    write_to(out, &mut sheet, "write 1 8 2");
     let mut short = [7u8; 1023];
-    write_to(out, &mut short, b"write to 1023 bytes: ");
+    write_to(out, &mut short, "write to 1023 bytes");
     let mut sheets = [0u8; 2560];
     damage(&sheet, &mut sheets);
     read_back(out, &sheets);
@@ -511,25 +439,24 @@ fn run_sheets(out: &mut Screen) {
 
 fn run_walks(out: &mut Screen) {
     // 0, 1 and 9: T = 9 by sum, so that 9 alone goes right; T = 0 by scatter, and all go left
-    print_walk(out, b"walk 0 1 9 by sum, T 9: ", nine(false, 9));
-    print_walk(out, b"walk 0 1 9 by scatter, T 0: ", nine(true, 0));
+    print_walk(out, "walk 0 1 9 by sum, T 9", nine(false, 9));
+    print_walk(out, "walk 0 1 9 by scatter, T 0", nine(true, 0));
     // (1,2,1,2) and (2,1,2,1), which nothing parts: sums of 6, T = 12
-    print_walk(out, b"walk 1 2 1 2, 2 1 2 1 by sum, T 12: ", twins());
+    print_walk(out, "walk 1 2 1 2, 2 1 2 1 by sum, T 12", twins());
 }
 
 // ---- distances with a limit: document 02, "Leave a hopeless trace early"
 
 // How far the samples of x are from those of y, as they are stored, in a line that begins with words and the limit.
-fn distance_of(out: &mut Screen, words: &[u8], x: &[Word], y: &[Word], limit: u64)
+fn distance_of(out: &mut Screen, words: &str, x: &[Word], y: &[Word], limit: u64)
     requires { (length x.now ≡ length y.now) × (length x.now ≤ most_samples) }
 {
-    item(out, words, limit);
-    print!(out; ": ");
+    print!(out; "{words} {limit}: ");
     print_distance(out, segment::within::distance_within(x, y, limit));
 }
 
 fn run_distances(out: &mut Screen) {
-    let words = b"two samples, 2 apart, limit ";
+    let words = "two samples, 2 apart, limit";
     let x: [Word; 2] = [0, 0];
     let y: [Word; 2] = [8192, 8192];
     distance_of(out, words, &x, &y, 3);
@@ -539,7 +466,7 @@ fn run_distances(out: &mut Screen) {
 
 // More samples than are taken at once.
 fn run_longer_distances(out: &mut Screen) {
-    let words = b"twenty samples, 1 apart, limit ";
+    let words = "twenty samples, 1 apart, limit";
     let x: [Word; 20] = [0; 20];
     let y: [Word; 20] = [4096; 20];
     distance_of(out, words, &x, &y, 15);

@@ -11,21 +11,21 @@ ghost use Rattle.adding.specs.Answered as added;
 ghost use Rattle.matching.specs.Answered as found;
 ghost use Rattle.examples.specs.Steps.{trail_junk, starred_in};
 
-use adding::Added;
 use matching::Found;
 use segment::{Sample, Word};
+use tables::Refusal;
 
 // What an adding answers, and how many nodes there are then.
 #[derive(Drop)]
 pub struct AddingStep {
-    pub answer: Added,
+    pub answer: Result<u64, Refusal>,
     pub nodes: u16,
 }
 
 // What a match answers, and the trail that it leaves.
 #[derive(Drop)]
 pub struct MatchStep {
-    pub answer: Found,
+    pub answer: Result<Found, Refusal>,
     pub trail: [u16; 3],
 }
 
@@ -48,7 +48,7 @@ pub fn add_to(
     let answer = adding::add(control, samples, nodes, links, work, labels, trace);
     let count = tables::control::field(control, tables::places::NODE_COUNT);
     AddingStep {
-        answer: answer,
+        answer,
         nodes: count,
     }
 }
@@ -72,10 +72,7 @@ pub fn match_of(
     let answer = matching::nearest(
         control, samples, nodes, links, work, labels, &mut trail, query,
     );
-    MatchStep {
-        answer: answer,
-        trail: trail,
-    }
+    MatchStep { answer, trail }
 }
 
 // The library of the starred example of a sheet: "n = 1, capacity 8, leaf size 2, trace (−1): checks 2,130 and 2,812".
@@ -90,6 +87,6 @@ pub fn put_starred(
     ensures { tables_after control samples nodes links work labels
         ≡ starred_in (tables_before_all control samples nodes links work labels) }
 {
-    opening::open(control, samples, nodes, links, work, labels, 1, 8, 2);
-    adding::add(control, samples, nodes, links, work, labels, &[-1]);
+    let _ = opening::open(control, samples, nodes, links, work, labels, 1, 8, 2);
+    let _ = adding::add(control, samples, nodes, links, work, labels, &[-1]);
 }

@@ -27,7 +27,9 @@ use Rattle.limiting.specs.Answered as limiting_answer
 use Rattle.clipping.specs.Answered as clipping_answer
 use Rattle.pairing.specs.Answered as pairing_answer
 use Rattle.pairing.specs.Parts.{LentPart, lent_part, no_words, part_by, HandedBack}
-use Rattle.pairing.specs.declared.PairFound.{PairFound}
+use Rattle.std.specs.Prelude.{Result}
+use Rattle.tables.specs.declared.Refusal.{Refusal}
+use Rattle.pairing.specs.declared.Paired.{Paired}
 use Rattle.pairing.proofs.Told.{handed_back}
 use Rattle.batch_answers.specs.AnswerRecords.{nears_of}
 use Rattle.batch_answers.proofs.Whole.{whole}
@@ -55,11 +57,11 @@ Both Own = ToSearch (MutBor (List ℕ) × ToSearch (MutBor (List ℕ) × (Bor (L
 abbrev leading : LentPart → MutBor (Bor (List ℤ))
 leading part = record { ref_ptr = (0, 0); ghost_name = 0; now = record { ref_ptr = (part.block, part.byte); now = part.contents } }
 
-abbrev pair_answer : Both Unit → PairFound → Answer
+abbrev pair_answer : Both Unit → Result Paired Refusal → Answer
 pair_answer exits r = pairing_answer.answer_by r (own exits).0.now (own (own exits).1).0.now
 
 -- what goes with this answer, of these tables
-abbrev pair_part : Both Unit → PairFound → LentPart
+abbrev pair_part : Both Unit → Result Paired Refusal → LentPart
 pair_part args r =
     let bench = (own args).1 in
     part_by r (lent_part args.1.0) (lent_part bench.1.0) (length (own bench).1.0.now)
@@ -71,7 +73,7 @@ with_part s out part =
     with_own s ((own s).0, with_own bench ((own bench).0, ((own bench).1.0, (place out, (leading part, tt)))))
 
 -- the part that goes with an answer is the one that the contract names
-part_goes : (args exits : Both Unit) (r : PairFound) (answer : Answer) → pair_answer exits r ≡ answer
+part_goes : (args exits : Both Unit) (r : Result Paired Refusal) (answer : Answer) → pair_answer exits r ≡ answer
     → let bench = (own args).1 in
     HandedBack answer (lent_part args.1.0) (lent_part bench.1.0) (length (own bench).1.0.now) (pair_part args r)
 part_goes args exits r answer e =

@@ -15,19 +15,18 @@ use Rattle.tables.specs.Tables.{Tables, measures_of}
 use Rattle.tables.specs.View.{trace_in, traces_in}
 use Rattle.tables.specs.Answers.{found_by}
 use Rattle.tables.specs.declared.Refusal.{Refusal}
-use Rattle.tables.specs.declared.Verdict.TheVariants as v
+use Rattle.std.specs.Prelude.{Ok, Err}
 use Rattle.tables.proofs.Views.{trace_at}
 use Rattle.tables.proofs.Parts.{trace_length}
 use Rattle.calls.specs.Outcome.{outcome}
 use Rattle.calls.specs.Effects.{exports, effect_of, outcome_on}
 use Rattle.calls.proofs.Ends.{ends_refused, ends_done}
 use Rattle.exporting.specs.Answered.{answer_by}
-use Rattle.exporting.specs.declared.Exported.TheVariants as e
 use Rattle.exporting.proofs.Exportable.{Exportable, exportable}
 
 module _ (t : Tables) (number rate : ℕ) (buffer : List ℕ) where
-  pub refused_answer : (why : Refusal) → first_of (exports t number rate buffer).conditions ≡ found_by (v.Refused why)
-      → outcome (answer_by (e.Refused why) buffer) t (buffer ∷ []) ≡ outcome_on (exporting number rate buffer) t
+  pub refused_answer : (why : Refusal) → first_of (exports t number rate buffer).conditions ≡ found_by (Err why)
+      → outcome (answer_by (Err why) buffer) t (buffer ∷ []) ≡ outcome_on (exporting number rate buffer) t
   unfolding answer_by outcome_on effect_of beside_of
   refused_answer why q = ends_refused t (buffer ∷ []) (exports t number rate buffer) why q
 
@@ -52,7 +51,7 @@ module _ (t : Tables) (number rate : ℕ) (buffer : List ℕ) where
     bytes_are = ap (recording_of rate) (sym (trace_at t number ok.numbered))
 
     pub exported_answer : (buffer' : List ℕ) (size : ℕ) → size ≡ recording_size n → buffer' ≡ over bytes buffer
-        → outcome (answer_by (e.Bytes size) buffer') t (buffer' ∷ []) ≡ outcome_on (exporting number rate buffer) t
+        → outcome (answer_by (Ok size) buffer') t (buffer' ∷ []) ≡ outcome_on (exporting number rate buffer) t
     unfolding answer_by outcome_on effect_of beside_of exports
     exported_answer buffer' size size_is filled =
         ends_done t (buffer ∷ []) (exports t number rate buffer) (exported size (take size buffer')) t (buffer' ∷ []) nothing

@@ -9,17 +9,18 @@ ghost use Rattle.dstree.specs.Recording.{rate_limit};
 ghost use Rattle.dstree.specs.Book.{export_conditions};
 ghost use Rattle.tables.specs.Tables.{measures_of, tables, trace_count};
 ghost use Rattle.tables.specs.View.{traces_in};
-ghost use Rattle.tables.specs.Lent.{tables_before};
+ghost use Rattle.tables.specs.Shared.{tables_lent};
 ghost use Rattle.tables.specs.Answers.{found_by};
 ghost use Rattle.calls.specs.Effects.{exports};
 
 use segment::Word;
 use sheet::samples::all_narrow;
+use tables::Refusal;
 use tables::control::field;
+use tables::lent::Lent;
 use tables::numbers::{wide, wider};
 use tables::places::{N, TRACE_COUNT};
 use tables::runs::trace_at;
-use tables::{Refusal, Verdict};
 use well_formed::judging::judge_tables;
 
 // A rate below 2^31, and the number of one of k traces. At full width: no number wraps into that.
@@ -46,7 +47,13 @@ fn recordable(control: &[u16], samples: &[Word], number: u64, rate: u64) -> bool
 }
 
 // What is refused behind the tables.
-fn judge_own(control: &[u16], samples: &[Word], buffer: &[u8], number: u64, rate: u64) -> Verdict
+fn judge_own(
+    control: &[u16],
+    samples: &[Word],
+    buffer: &[u8],
+    number: u64,
+    rate: u64,
+) -> Result<(), Refusal>
     requires { trace_count (tables control.now [] [] [] []) * (measures_of (tables control.now [] [] [] [])).n ≤ length samples.now }
     ensures { found_by result ≡ first_of (export_conditions (measures_of (tables control.now [] [] [] []))
         (trace_count (tables control.now [] [] [] []))
@@ -57,32 +64,19 @@ fn judge_own(control: &[u16], samples: &[Word], buffer: &[u8], number: u64, rate
     let bad = !recordable(control, samples, number, rate);
     let short = buffer.len() < need;
     if bad {
-        return Verdict::Refused(Refusal::BadRecording);
+        return Err(Refusal::BadRecording);
     }
     if short {
-        return Verdict::Refused(Refusal::SheetLength);
+        return Err(Refusal::SheetLength);
     }
-    Verdict::Fine
+    Ok(())
 }
 
-pub fn judge(
-    control: &[u16],
-    samples: &[Word],
-    nodes: &[i64],
-    links: &[u16],
-    work: &[u64],
-    labels: &[u64],
-    buffer: &[u8],
-    number: u64,
-    rate: u64,
-) -> Verdict
+pub fn judge(lent: Lent, buffer: &[u8], number: u64, rate: u64) -> Result<(), Refusal>
     ensures { found_by result ≡ first_of (exports
-        (tables_before control samples nodes links work labels)
+        (tables_lent lent.entry)
         number rate buffer.now).conditions }
 {
-    let made = judge_tables(control, samples, nodes, links, work, labels);
-    match made {
-        Verdict::Refused(why) => Verdict::Refused(why),
-        Verdict::Fine => judge_own(control, samples, buffer, number, rate),
-    }
+    judge_tables(lent)?;
+    judge_own(lent.control, lent.samples, buffer, number, rate)
 }

@@ -12,21 +12,15 @@ ghost use Rattle.exporting.specs.Answered.{answer_by};
 
 use recording::writing::write_recording;
 use segment::Word;
+use tables::Refusal;
 use tables::control::field;
+use tables::lent::Lent;
 use tables::numbers::wide;
 use tables::places::N;
 use tables::runs::trace_at;
-use tables::{Refusal, Verdict};
 
-// The number of bytes, or a refusal.
-#[derive(Drop)]
-pub enum Exported {
-    Bytes(u64),
-    Refused(Refusal),
-}
-
-// Writes a stored trace as a recording, at a rate, to the buffer's first places. Every refusal is decided before anything is written. All
-// six tables are lent only to be read and to be long enough: they stay as they were.
+// Writes a stored trace as a recording, at a rate, to the buffer's first places, and answers the number of bytes. Every refusal is decided
+// before anything is written. All six tables are lent only to be read and to be long enough: they stay as they were.
 //
 // Two wrong programs that the contract rules out: one that says the number of samples for the number of bytes, and one that cuts a sample
 // beyond 16 bits to its low ones.
@@ -40,23 +34,24 @@ pub fn export_recording(
     buffer: &mut [u8],
     number: u64,
     rate: u64,
-) -> Exported
+) -> Result<u64, Refusal>
     ensures { outcome (answer_by result buffer.new)
         (tables_before control samples nodes links work labels)
         (buffer.new ∷ [])
         ≡ outcome_on (exporting number rate buffer.old)
         (tables_before control samples nodes links work labels) }
 {
-    let verdict = judging::judge(
-        control, samples, nodes, links, work, labels, buffer, number, rate,
-    );
-    match verdict {
-        Verdict::Refused(why) => Exported::Refused(why),
-        Verdict::Fine => {
-            let n = wide(field(control, N));
-            let trace = trace_at(samples, n, number as usize);
-            write_recording(buffer, rate, trace);
-            Exported::Bytes(44 + 2 * n as u64)
-        }
-    }
+    let lent = Lent {
+        control,
+        samples,
+        nodes,
+        links,
+        work,
+        labels,
+    };
+    judging::judge(lent, buffer, number, rate)?;
+    let n = wide(field(control, N));
+    let trace = trace_at(samples, n, number as usize);
+    write_recording(buffer, rate, trace);
+    Ok(44 + 2 * n as u64)
 }

@@ -1,6 +1,6 @@
 -- Figures recomputed and compared. A child's record serves its parent, where the child has a segment on the same samples and was found
 -- exact.
-use Rattle.std.specs.Prelude.{ℕ, zero, suc, ◌+◌, ◌*◌, ◌≤◌, ◌<◌, min, max, ◌≡◌, Bool, true, List, ◌++◌, ℤ, length, get_or, take, drop, T}
+use Rattle.std.specs.Prelude.{ℕ, zero, suc, ◌+◌, ◌*◌, ◌≤◌, ◌<◌, min, max, ◌≡◌, Bool, List, ◌++◌, ℤ, length, get_or, take, drop, T}
 use Rattle.integer.specs.Words.{lesser, greater}
 use Rattle.integer.specs.Lists.{In}
 use Rattle.dstree.specs.Measures.{Trace, most_nodes, most_samples, most_traces}
@@ -20,7 +20,6 @@ numbers_laid_at sizes starts order j = take (get_or sizes j 0) (drop (get_or sta
 -- the figures of two lists of traces together
 unfoldable pub joined_figures : SideRange → SideRange → SideRange
 joined_figures a b = record {
-  any = true;
   least_sum = lesser a.least_sum b.least_sum;
   greatest_sum = greater a.greatest_sum b.greatest_sum;
   least_scatter = min a.least_scatter b.least_scatter;

@@ -1,6 +1,6 @@
 // The figures of the traces below a node on a run of samples: from the samples, or from the record of a child that was found exact.
 
-ghost use Rattle.std.specs.Prelude.{◌≡◌, ℕ, ◌+◌, ◌*◌, ◌≤◌, ◌<◌, length, T};
+ghost use Rattle.std.specs.Prelude.{IfSome, ◌≡◌, ℕ, ◌+◌, ◌*◌, ◌≤◌, ◌<◌, length, T};
 ghost use Rattle.integer.specs.Lists.{In};
 ghost use Rattle.dstree.specs.Figures.{run};
 ghost use Rattle.dstree.specs.Adding.{segment_of};
@@ -13,13 +13,11 @@ ghost use Rattle.leaf_figures.specs.Rows.{traces_at};
 ghost use Rattle.leaf_figures.specs.Sides.{segment_by};
 ghost use Rattle.figures_below.specs.Compared.{joined_figures, first_on, traces_under, exact_in, ReadyAt, AboveExact};
 
-use leaf_figures::sides::{SideRange, widened};
+use leaf_figures::sides::{NO_TRACE, SideRange, widened};
 use segment::Word;
-use segment_bound::terms::larger;
-use tables::numbers::{greater, lesser, smaller, wide};
+use tables::kinds::is_leaf;
 use tables::places::{
-    FIRST, GREATEST_SCATTER, GREATEST_SUM, HEAD, KIND, LEAST_SCATTER, LEAST_SUM, RIGHT, SEGMENT,
-    SEGMENTS,
+    FIRST, GREATEST_SCATTER, GREATEST_SUM, HEAD, LEAST_SCATTER, LEAST_SUM, RIGHT, SEGMENT, SEGMENTS,
 };
 use tables::records::{node_small, record_at, scatter, small_at, value_at};
 use tables::runs::{figures_on, trace_at};
@@ -30,21 +28,12 @@ fn listed_figures(samples: &[Word], n: usize, list: &[u16], first: usize, last: 
         × ((t : ℕ) → In t list.now → t * n + n ≤ length samples.now) }
     ensures { segment_by last result ≡ segment_of (traces_at samples.now n list.now) (run first last) }
 {
-    let mut f = SideRange {
-        any: false,
-        least_sum: 0,
-        greatest_sum: 0,
-        least_scatter: 0,
-        greatest_scatter: 0,
-    };
-    let mut next: usize = 0;
-    while next < list.len() {
-        let trace = trace_at(samples, n, wide(list[next]));
-        let own = figures_on(trace, first, last);
-        f = widened(f, own.sum, own.scatter);
-        next += 1;
+    let mut f: Option<SideRange> = None;
+    for t in list {
+        let own = figures_on(trace_at(samples, n, usize::from(*t)), first, last);
+        f = Some(widened(f, own.sum, own.scatter));
     }
-    f
+    f.unwrap_or(NO_TRACE)
 }
 
 // Of the traces below node j, from their samples.
@@ -64,8 +53,8 @@ fn figures_below(
         ≡ segment_of (traces_under samples.now n sizes.now starts.now order.now j)
         (run first last) }
 {
-    let from = wide(starts[j]);
-    let to = from + wide(sizes[j]);
+    let from = usize::from(starts[j]);
+    let to = from + usize::from(sizes[j]);
     listed_figures(samples, n, &order[from..to], first, last)
 }
 
@@ -74,11 +63,10 @@ fn joined(a: SideRange, b: SideRange) -> SideRange
     ensures { result ≡ joined_figures a b }
 {
     SideRange {
-        any: true,
-        least_sum: lesser(a.least_sum, b.least_sum),
-        greatest_sum: greater(a.greatest_sum, b.greatest_sum),
-        least_scatter: smaller(a.least_scatter, b.least_scatter),
-        greatest_scatter: larger(a.greatest_scatter, b.greatest_scatter),
+        least_sum: a.least_sum.min(b.least_sum),
+        greatest_sum: b.greatest_sum.max(a.greatest_sum),
+        least_scatter: a.least_scatter.min(b.least_scatter),
+        greatest_scatter: a.greatest_scatter.max(b.greatest_scatter),
     }
 }
 
@@ -89,7 +77,6 @@ pub fn recorded(record: &[i64], i: usize) -> SideRange
 {
     let at = HEAD + i * SEGMENT;
     SideRange {
-        any: true,
         least_sum: value_at(record, at + LEAST_SUM),
         greatest_sum: value_at(record, at + GREATEST_SUM),
         least_scatter: scatter(value_at(record, at + LEAST_SCATTER)),
@@ -97,25 +84,22 @@ pub fn recorded(record: &[i64], i: usize) -> SideRange
     }
 }
 
-// The segment of a record that is the samples `first` to `last`; 16 if it has none.
-fn segment_on(record: &[i64], first: usize, last: usize) -> usize
+// The segment of a record that is the samples `first` to `last`, if it has one.
+fn segment_on(record: &[i64], first: usize, last: usize) -> Option<usize>
     requires { (length «record».now ≡ record_places) × (small_at «record».now segments_place ≤ most_segments) }
-    ensures inside { result < most_segments → result < small_at «record».now segments_place }
-    ensures first { result < most_segments → first_on «record».now result ≡ first }
-    ensures last { result < most_segments → (segment_in «record».now result).end ≡ last }
+    ensures { IfSome result (λ i. (i < small_at «record».now segments_place) × (first_on «record».now i ≡ first)
+        × ((segment_in «record».now i).end ≡ last)) }
 {
     let count = small_at(record, SEGMENTS);
     let mut from: usize = 1;
-    let mut i: usize = 0;
-    while i < count {
+    for i in 0..count {
         let end = small_at(record, HEAD + i * SEGMENT);
         if from == first && end == last {
-            return i;
+            return Some(i);
         }
         from = end + 1;
-        i += 1;
     }
-    16
+    None
 }
 
 // Of the traces below node c, whose record has exactly their figures: from that record where it has the segment, else from the samples.
@@ -137,11 +121,10 @@ fn child_figures(
         (run first last) }
 {
     let record = record_at(nodes, c);
-    let i = segment_on(record, first, last);
-    if i < 16 {
-        return recorded(record, i);
+    match segment_on(record, first, last) {
+        Some(i) => recorded(record, i),
+        None => figures_below(samples, nodes, n, sizes, starts, order, c, first, last),
     }
-    figures_below(samples, nodes, n, sizes, starts, order, c, first, last)
 }
 
 // Of the traces below node j: a leaf's from their samples, an inner node's by its children.
@@ -161,8 +144,7 @@ pub fn node_figures(
         ≡ segment_of (traces_under samples.now n sizes.now starts.now order.now j)
         (run first last) }
 {
-    let kind = node_small(nodes, j, KIND);
-    if kind == 0 {
+    if is_leaf(nodes, j) {
         return figures_below(samples, nodes, n, sizes, starts, order, j, first, last);
     }
     let left = node_small(nodes, j, FIRST);

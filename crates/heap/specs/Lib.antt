@@ -1,3 +1,4 @@
--- Keys in order, and what the calls on a heap of them leave.
+-- Keys in order, what the calls on a heap of them leave, and the lent places that it lies in.
 pub mod Keys
 pub mod Heap
+pub mod Lent

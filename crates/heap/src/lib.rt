@@ -1,92 +1,80 @@
-// A binary heap of keys, the least first, in the first n places of a lent slice. A hole is moved, and keys are not swapped: each step
+// A binary heap of keys, the least first, in the first places of a lent slice. A hole is moved, and keys are not swapped: each step
 // stores one key.
 #![tactic(auto)]
 
-ghost use Rattle.std.specs.Prelude.{◌≡◌, ◌<◌, ◌≤◌, ltb, length, get_or, if◌then◌else◌};
-ghost use Rattle.heap.specs.Heap.{IsHeap, Least, Lesser, Pushed, Sunk, Popped};
+pub mod sifting; // the ways of a hole, up and down, over places that are lent with the number of keys
 
-// Puts a key into a heap of n keys, which then has n + 1.
-pub fn push(s: &mut [u64], n: usize, key: u64)
-    requires { (n < length s.old) × (IsHeap n s.old) }
-    ensures { Pushed n key s.old s.new }
-{
-    let mut at = n;
-    while 0 < at {
-        let up = (at - 1) / 2;
-        let k = s[up];
-        if k <= key {
-            s[at] = key;
-            return;
+ghost use Rattle.std.specs.Prelude.{◌≡◌, ◌+◌, ◌<◌, ◌≤◌, length, get_or, MatchOption};
+ghost use Rattle.heap.specs.Heap.{IsHeap, Least, Pushed, Sunk, Popped};
+
+// The first `len` of the lent places are the heap. The places behind them stay as they are.
+#[derive(Drop)]
+pub struct Heap<'a> {
+    pub keys: &'a mut [u64],
+    pub len: usize,
+    pub ghost room: { len ≤ length keys.now },
+    pub ghost is_heap: { IsHeap len keys.now },
+}
+
+impl<'a> Heap<'a> {
+    ghost use Rattle.heap.specs.Lent.{SameRoom};
+
+    // No key is in it yet.
+    pub fn new(keys: &'a mut [u64]) -> Heap<'a>
+        ensures same { result.keys.ghost_name ≡ keys.entry.ghost_name }
+        ensures stays { result.keys.now ≡ keys.old }
+        ensures none { result.len ≡ 0 }
+    {
+        Heap { keys, len: 0 }
+    }
+
+    // How many keys there is place for.
+    pub fn capacity(&self) -> usize
+        ensures { result ≡ length self.now.keys.now }
+    {
+        self.keys.len()
+    }
+
+    // The least key, if there is one. It stays in.
+    pub fn peek(&self) -> Option<u64>
+        ensures { MatchOption result (self.now.len ≡ 0) (λ key. Least self.now.len self.now.keys.now key × (0 < self.now.len)) }
+    {
+        if self.len == 0 {
+            return None;
         }
-        s[at] = k;
-        at = up;
+        Some(self.keys[0])
     }
-    s[at] = key;
-}
 
-// 1 if b is below a, else 0.
-fn below(a: u64, b: u64) -> usize
-    ensures value { result ≡ (if ltb b a then 1 else 0) }
-    ensures size { result ≤ 1 }
-{
-    if b < a { 1 } else { 0 }
-}
-
-// The place of the lesser of the keys at `left` and at the place after it, if that is below n. What the comparison says is added, not
-// branched on: which of two keys is the lesser is guessed wrong as often as not.
-fn lesser(s: &[u64], n: usize, left: usize) -> usize
-    requires { (left < n) × (n ≤ length s.now) }
-    ensures { Lesser n left s.now result }
-{
-    let right = left + 1;
-    if n <= right {
-        return left;
+    // Puts a key in.
+    pub fn push(&mut self, key: u64)
+        requires { self.old.len < length self.old.keys.now }
+        ensures room { SameRoom self.old self.new }
+        ensures more { self.new.len ≡ self.old.len + 1 }
+        ensures pushed { Pushed self.old.len key self.old.keys.now self.new.keys.now }
+    {
+        sifting::rise(self.keys, self.len, key);
+        self.len += 1;
     }
-    left + below(s[left], s[right])
-}
 
-// Puts a key that is not below the least in the place of the least of a heap of n keys. Where the least is taken and another key comes in,
-// this spares the way up of the one that comes in.
-pub fn sink(s: &mut [u64], n: usize, key: u64)
-    requires { (0 < n) × (n ≤ length s.old) × (IsHeap n s.old) × (get_or s.old 0 0 ≤ key) }
-    ensures { Sunk n key s.old s.new }
-{
-    let mut at: usize = 0;
-    let mut left: usize = 1;
-    while left < n {
-        let c = lesser(s, n, left);
-        let k = s[c];
-        if key <= k {
-            s[at] = key;
-            return;
-        }
-        s[at] = k;
-        at = c;
-        left = 2 * c + 1;
+    // Puts a key that is not below the least in the place of the least. Where the least is taken and another key comes in, this spares the
+    // way up of the one that comes in.
+    pub fn replace_least(&mut self, key: u64)
+        requires { (0 < self.old.len) × (get_or self.old.keys.now 0 0 ≤ key) }
+        ensures room { SameRoom self.old self.new }
+        ensures as_many { self.new.len ≡ self.old.len }
+        ensures sunk { Sunk self.old.len key self.old.keys.now self.new.keys.now }
+    {
+        sifting::sink(self.keys, self.len, key);
     }
-    s[at] = key;
-}
 
-// The least of the n keys of a heap. It stays in.
-pub fn least(s: &[u64], n: usize) -> u64
-    requires { (0 < n) × (n ≤ length s.now) × (IsHeap n s.now) }
-    ensures { Least n s.now result }
-{
-    s[0]
-}
-
-// Takes the least of n keys out of a heap, which then has n - 1. The place that falls free is set to 0: search work is left zero.
-pub fn pop(s: &mut [u64], n: usize) -> u64
-    requires { (0 < n) × (n ≤ length s.old) × (IsHeap n s.old) }
-    ensures { Popped n result s.old s.new }
-{
-    let least = s[0];
-    let last = n - 1;
-    let key = s[last];
-    s[last] = 0;
-    if 0 < last {
-        sink(s, last, key);
-        return least;
+    // Takes the least key out. The place that falls free is set to 0: search work is left zero.
+    pub fn pop(&mut self) -> u64
+        requires { 0 < self.old.len }
+        ensures room { SameRoom self.old self.new }
+        ensures less { self.new.len + 1 ≡ self.old.len }
+        ensures popped { Popped self.old.len result self.old.keys.now self.new.keys.now }
+    {
+        self.len -= 1;
+        sifting::take_least(self.keys, self.len + 1)
     }
-    least
 }

@@ -1,5 +1,5 @@
 -- What `import_recording` answers, in document 02's terms.
-use Rattle.std.specs.Prelude.{ℕ, length}
+use Rattle.std.specs.Prelude.{ℕ, length, Result, Ok, Err}
 use Rattle.std.proofs.Math.Option.{Option, none, some}
 use Rattle.dstree.specs.Measures.{Measures}
 use Rattle.dstree.specs.Refusals as word
@@ -7,13 +7,12 @@ use Rattle.dstree.specs.Refusals.{first_of}
 use Rattle.dstree.specs.Recording.{Recording, file_traces}
 use Rattle.dstree.specs.Book.{Answer, answering, refusing, imported, import_conditions}
 use Rattle.tables.specs.Answers.{word_of}
-use Rattle.importing.specs.declared.Imported.{Imported}
-use Rattle.importing.specs.declared.Imported.TheVariants as i
+use Rattle.tables.specs.declared.Refusal as declared
 
 -- "the answer is how many"
-unfoldable pub answer_by : Imported → Answer
-answer_by (i.Traces count) = answering (imported count)
-answer_by (i.Refused why) = refusing (word_of why)
+unfoldable pub answer_by : Result ℕ declared.Refusal → Answer
+answer_by (Ok count) = answering (imported count)
+answer_by (Err why) = refusing (word_of why)
 
 -- by the first condition that holds: a refusal, or so many traces
 unfoldable pub count_unless : Option word.Refusal → ℕ → Answer

@@ -15,19 +15,13 @@ use segment::Word;
 use tables::Refusal;
 use tables::control::field;
 use tables::label_table::clear;
+use tables::lent::Lent;
 use tables::numbers::wide;
 use tables::places::{N, TRACE_COUNT};
 
-// How many traces were added, or a refusal.
-#[derive(Drop)]
-pub enum Imported {
-    Traces(u64),
-    Refused(Refusal),
-}
-
-// Adds the traces of a file of any bytes, in order, all or none. Every refusal is decided before anything is written, and what was judged
-// is not tested again: each trace goes into tables that are known to be well formed. A recording gives no labels, so that they are zero.
-// Search work is lent only to be long enough: it stays as it was.
+// Adds the traces of a file of any bytes, in order, all or none, and answers how many. Every refusal is decided before anything is written,
+// and what was judged is not tested again: each trace goes into tables that are known to be well formed. A recording gives no labels, so
+// that they are zero. Search work is lent only to be long enough: it stays as it was.
 //
 // Two wrong programs that the contract rules out: one that adds traces until the library is full and then refuses, and one that takes a
 // file whose last trace is short.
@@ -39,31 +33,34 @@ pub fn import_recording(
     work: &[u64],
     labels: &mut [u64],
     bytes: &[u8],
-) -> Imported
+) -> Result<u64, Refusal>
     ensures { outcome (answer_by result)
         (tables_after_adding control samples nodes links work labels)
         []
         ≡ outcome_on (importing bytes.now)
         (tables_before_adding control samples nodes links work labels) }
 {
-    let judged = judging::judge(control, samples, nodes, links, work, labels, bytes);
-    match judged {
-        Imported::Refused(why) => Imported::Refused(why),
-        Imported::Traces(count) => {
-            let n = wide(field(control, N));
-            let k = wide(field(control, TRACE_COUNT));
-            clear(labels, k, count as usize);
-            load(
-                control,
-                samples,
-                nodes,
-                links,
-                Source::Recording,
-                bytes,
-                n,
-                count as usize,
-            );
-            Imported::Traces(count)
-        }
-    }
+    let lent = Lent {
+        control,
+        samples,
+        nodes,
+        links,
+        work,
+        labels,
+    };
+    let count = judging::judge(lent, bytes)?;
+    let n = wide(field(control, N));
+    let k = wide(field(control, TRACE_COUNT));
+    clear(labels, k, count as usize);
+    load(
+        control,
+        samples,
+        nodes,
+        links,
+        Source::Recording,
+        bytes,
+        n,
+        count as usize,
+    );
+    Ok(count)
 }

@@ -2,7 +2,7 @@
 -- knows at each node (`GoingDown`). A child is numbered above its parent, so that a node is met once: records met later are as they were.
 use Rattle.std.specs.Prelude.{if◌then◌else◌}
 use mathlib.Core.Path.{◌≡◌, refl, sym, ap, subst, ◌∙◌}
-use mathlib.Core.Option.{Option, none, some}
+use mathlib.Core.Option.{none, some}
 use mathlib.Core.List.{List, [], ◌∷◌, map}
 use Prim.Native.Nat.{ℕ, zero, suc, ◌+◌, ◌*◌, ◌-◌, ◌≤◌, ◌<◌}
 use native.Mathlib.Omega.{arith}
@@ -23,7 +23,7 @@ use Rattle.tables.proofs.Frame.{with_length, record_other, record_length}
 use Rattle.insertion_memory.specs.Records.{widen_record}
 use Rattle.insertion_memory.specs.Memory.{on_record, widened_on}
 use Rattle.insertion.specs.Widening.{Readable}
-use Rattle.insertion.specs.Way.{next_in, or_zero, way_in, Descendable}
+use Rattle.insertion.specs.Way.{next_in, way_in, Descendable}
 use Rattle.insertion.proofs.Widened.{partly_all, partly_length}
 
 -- ---- the child by the kind
@@ -44,14 +44,6 @@ child_inner r x zero h f = absurd (f refl)
 child_inner r x (suc zero) h f = refl
 child_inner r x (suc (suc zero)) h f = refl
 child_inner r x (suc (suc (suc kind))) h f = absurd (omega arith)
-
-from_zero : (o : Option ℕ) → ((c : ℕ) → o ≡ some c → 0 < c) → or_zero o ≡ 0 → o ≡ none
-from_zero none h e = refl
-from_zero (some c) h e = let g : 0 < c = h c refl in absurd (omega arith)
-
-from_some : (o : Option ℕ) → (or_zero o ≡ 0 → ⊥) → o ≡ some (or_zero o)
-from_some none f = absurd (f refl)
-from_some (some c) f = refl
 
 -- ---- by the tree that the tables stand for: where a trace goes on, no leaf's list is looked at
 
@@ -131,29 +123,25 @@ module _ {nodes : List ℤ} {count n : ℕ} (ok : Descendable nodes count n) (x 
     some_fuel = omega (arith, g.inside, g.enough)
 
     -- the answer of the code at `at`
-    module _ {next : ℕ} (e : next ≡ or_zero (next_in (record_of now at) x)) where
-      next_is : next ≡ or_zero (next_node (node_at tree at).kind x)
-      next_is = e ∙ ap (λ (r : List ℤ). or_zero (next_in r x)) same_record ∙ ap or_zero (sym (next_at at g.inside))
+    next_is : next_node (node_at tree at).kind x ≡ next_in (record_of now at) x
+    next_is = next_at at g.inside ∙ sym (ap (λ (r : List ℤ). next_in r x) same_record)
 
-      -- a leaf: the way ends
-      pub ended : next ≡ 0
-          → (at ≡ last_of (way_in nodes count x)) × (on_record (widen_record x) now at ≡ widened_on x nodes (way_in nodes count x))
-      ended z =
-          let none_left = from_zero (next_node (node_at tree at).kind x) (λ c q. omega (arith, (ok.child x at c q).0)) (sym next_is ∙ z) in
-          let stop = way_stops tree x g.fuel at some_fuel none_left in
-          (sym (ap last_of stop) ∙ g.last, sym (ap (widened_on x now) stop) ∙ g.left)
+    -- a leaf: the way ends
+    pub ended : next_in (record_of now at) x ≡ none
+        → (at ≡ last_of (way_in nodes count x)) × (on_record (widen_record x) now at ≡ widened_on x nodes (way_in nodes count x))
+    ended e =
+        let stop = way_stops tree x g.fuel at some_fuel (next_is ∙ e) in
+        (sym (ap last_of stop) ∙ g.last, sym (ap (widened_on x now) stop) ∙ g.left)
 
-      -- an inner node: on to a child
-      at_inner : (next ≡ 0 → ⊥) → next_node (node_at tree at).kind x ≡ some next
-      at_inner f = from_some (next_node (node_at tree at).kind x) (λ z. f (next_is ∙ z)) ∙ ap some (sym next_is)
+    -- an inner node: on to a child
+    module _ {next : ℕ} (e : next_in (record_of now at) x ≡ some next) where
+      pub falls : (at < next) × (next < count)
+      falls = ok.child x at next (next_is ∙ e)
 
-      pub falls : (next ≡ 0 → ⊥) → (at < next) × (next < count)
-      falls f = ok.child x at next (at_inner f)
-
-      pub goes_on : (next ≡ 0 → ⊥) → GoingDown nodes count x (on_record (widen_record x) now at) next
-      goes_on f =
-          let b = falls f in
-          let goes = way_goes tree x g.fuel at next some_fuel (at_inner f) in
+      pub goes_on : GoingDown nodes count x (on_record (widen_record x) now at) next
+      goes_on =
+          let b = falls in
+          let goes = way_goes tree x g.fuel at next some_fuel (next_is ∙ e) in
           record {
             inside = b.1;
             same_length = widened_length;

@@ -1,7 +1,7 @@
 -- The way down by the node table, in document 01's words: the way of the tree that its records have. No link is read on the way, so what
 -- list a leaf has is left out.
 use Rattle.std.specs.Prelude.{ℕ, ◌*◌, ◌≤◌, ◌<◌, ◌≡◌, List, [], ℤ, length, eqb}
-use Rattle.std.proofs.Math.Option.{Option, none, some}
+use Rattle.std.proofs.Math.Option.{Option, some}
 use Rattle.dstree.specs.Measures.{Trace, most_samples, most_nodes}
 use Rattle.dstree.specs.Node.{Figure, node_at}
 use Rattle.dstree.specs.Adding.{next_node, way}
@@ -18,11 +18,6 @@ figure_in r = figure_by (eqb (small_at r kind_place) 2)
 -- the child that a trace goes to from a record, none at a leaf
 abbrev pub next_in : List ℤ → Trace → Option ℕ
 next_in r x = next_node (kind_in [] 0 r (small_at r kind_place)) x
-
--- a child's number, or 0: no node has node 0 for a child
-abbrev pub or_zero : Option ℕ → ℕ
-or_zero none = 0
-or_zero (some child) = child
 
 -- the nodes that a trace meets
 abbrev pub way_in : List ℤ → ℕ → Trace → List ℕ

@@ -16,6 +16,7 @@ ghost use Rattle.insertion.specs.Widening.{with_segment};
 ghost use Rattle.insertion.specs.Heads.{leaf_head, segment_of_parts};
 
 use segment::Word;
+use tables::kinds::Kind;
 use tables::places::{
     FIRST, GREATEST_SCATTER, GREATEST_SUM, HEAD, KIND, LEAST_SCATTER, LEAST_SUM, RECORD_PLACES,
     RIGHT, RUN_FIRST, RUN_LAST, SEGMENT, SEGMENTS, THRESHOLD,
@@ -27,7 +28,7 @@ pub fn write_leaf_head(record: &mut [i64], segments: usize, first: usize)
     requires { (length «record».old ≡ record_places) × (segments ≤ small_most) × (first ≤ small_most) }
     ensures { «record».new ≡ leaf_head segments first ++ drop head_places «record».old }
 {
-    record[KIND] = 0;
+    record[KIND] = Kind::Leaf as i64;
     record[SEGMENTS] = segments as i64;
     record[FIRST] = first as i64;
     record[RIGHT] = 0;
@@ -36,14 +37,15 @@ pub fn write_leaf_head(record: &mut [i64], segments: usize, first: usize)
     record[THRESHOLD] = 0;
 }
 
-// An inner node's kind: 1 by sum, 2 by scatter.
+// The number of an inner node's kind.
 fn kind_of(by_scatter: bool) -> i64
     ensures { result ≡ inner_kind (figure_by by_scatter) }
 {
     if by_scatter {
-        return 2;
+        Kind::ByScatter as i64
+    } else {
+        Kind::BySum as i64
     }
-    1
 }
 
 // Node j's record, a leaf's, becomes an inner node's: kind, children and test. Its segments stay.
@@ -102,7 +104,7 @@ fn first_record(record: &mut [i64], trace: &[Word])
     ensures { «record».new
         ≡ leaf_record (segments_of (length trace.now ∷ []) (samples_of trace.now ∷ [])) 0 }
 {
-    tables::loops::zero_nodes(record, RECORD_PLACES);
+    tables::loops::fill_first(record, RECORD_PLACES, 0);
     write_leaf_head(record, 1, 0);
     let f = segment::figures::figures_of(trace);
     let n = trace.len();

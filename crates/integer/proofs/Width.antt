@@ -7,17 +7,14 @@
 --
 -- Where sizes do, `small` and `size` carry them over, and the laws of `read` take what the machine did back to what is meant.
 use mathlib.Core.Path.{◌≡◌, sym, ◌∙◌, ap, ap₂, subst}
-use mathlib.Core.Bool.{true}
-use Prim.Native.Nat.{◌+◌, ◌^◌, ◌≤◌, ◌<◌}
+use Prim.Native.Nat.{◌+◌, ◌^◌, ◌<◌}
 use native.Mathlib.Omega.{arith}
 use mir.Syntax.{Width}
 use mir.Val.{SFits, hbits, to_z, of_z}
-use mir.Facts.{to_z-of_z, sfits_widen}
-use lib.Dec.{T, leb}
+use mir.Facts.{to_z-of_z}
 use lib.IntN.{ℤ, nat_abs, ◌-ℤ◌}
-use lib.Signed as Signed
-use lib.Signed.{mag, lt_z, lt_z_yes}
-use Rattle.integer.proofs.Order.{◌<ℤ◌, mag_most, nat_abs_sub}
+use lib.Signed.{mag, lt_z}
+use Rattle.integer.proofs.Order.{mag_most, nat_abs_sub}
 
 -- ---- sizes
 -- what the read of an element shows, as the width's fact
@@ -27,19 +24,9 @@ of_mag z h = record { sfits = h }
 pub small : {w : Width} {z : ℤ} → nat_abs z < 2 ^ hbits w → SFits w z
 small {w} {z} h = record { sfits = omega (arith, mag_most z) }
 
-pub size : {w : Width} {z : ℤ} → SFits w z → nat_abs z ≤ 2 ^ hbits w
-size {w} {z} f = Signed.nat_abs-le z f.sfits
-
 -- ---- a signed local holds bits; this is what an operation reads back from those of z
 abbrev pub read : Width → ℤ → ℤ
 read w z = to_z w (of_z w z)
-
--- of a number that is widened
-pub read_wider : {v : Width} (w : Width) {z : ℤ} → T (leb (hbits v) (hbits w)) → SFits v z → read w (read v z) ≡ z
-read_wider {v} w {z} t f = ap (read w) (to_z-of_z f) ∙ to_z-of_z (sfits_widen t f)
-
-pub fits_wider : {v w : Width} {z : ℤ} → T (leb (hbits v) (hbits w)) → SFits v z → SFits w (read v z)
-fits_wider {v} {w} {z} t f = subst (SFits w) (sym (to_z-of_z f)) (sfits_widen t f)
 
 -- of two numbers: their test, and their difference
 module _ {w : Width} {a b : ℤ} (fa : SFits w a) (fb : SFits w b) where
@@ -52,7 +39,3 @@ module _ {w : Width} {a b : ℤ} (fa : SFits w a) (fb : SFits w b) where
 
     pub read_difference : read w (read w a -ℤ read w b) ≡ a -ℤ b
     read_difference = ap (read w) (ap₂ ◌-ℤ◌ (to_z-of_z fa) (to_z-of_z fb)) ∙ to_z-of_z (small (omega (arith, nat_abs_sub a b)))
-
--- ---- a test passed
-pub below : {a b : ℤ} → lt_z a b ≡ true → a <ℤ b
-below e = lt_z_yes (subst T (sym e) tt)

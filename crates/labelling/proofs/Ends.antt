@@ -14,17 +14,16 @@ use Rattle.dstree.proofs.Conditions.{none_first, none_both}
 use Rattle.tables.specs.Tables.{Tables, trace_count}
 use Rattle.tables.specs.Answers.{found_by, made_conditions}
 use Rattle.tables.specs.declared.Refusal.{Refusal}
-use Rattle.tables.specs.declared.Verdict.TheVariants as v
+use Rattle.std.specs.Prelude.{Ok, Err}
 use Rattle.tables.proofs.Labels.{label_at_lem}
 use Rattle.calls.specs.Outcome.{outcome}
 use Rattle.calls.specs.Effects.{tells_label, effect_of, outcome_on}
 use Rattle.calls.proofs.Ends.{ends_refused, ends_done}
 use Rattle.labelling.specs.Answered.{answer_by}
-use Rattle.labelling.specs.declared.Labelled.TheVariants as l
 
 module _ (t : Tables) (number : ℕ) where
-  pub refused_answer : (why : Refusal) → first_of (tells_label t number).conditions ≡ found_by (v.Refused why)
-      → outcome (answer_by (l.Refused why)) t [] ≡ outcome_on (labelling number) t
+  pub refused_answer : (why : Refusal) → first_of (tells_label t number).conditions ≡ found_by (Err why)
+      → outcome (answer_by (Err why)) t [] ≡ outcome_on (labelling number) t
   unfolding answer_by outcome_on effect_of beside_of
   refused_answer why q = ends_refused t [] (tells_label t number) why q
 
@@ -36,7 +35,7 @@ module _ (t : Tables) (number : ℕ) where
         ltb-true number (trace_count t) (not-false _ (none_first (not (ltb number (trace_count t))) bad_recording [] own).0)
 
     pub told_answer : (code serial : ℕ) → code ≡ (label_at (get_or t.labels number 0)).code → serial ≡ (label_at (get_or t.labels number 0)).serial
-        → outcome (answer_by (l.Label code serial)) t [] ≡ outcome_on (labelling number) t
+        → outcome (answer_by (Ok record { code = code; serial = serial })) t [] ≡ outcome_on (labelling number) t
     unfolding answer_by outcome_on effect_of beside_of tells_label
     told_answer code serial code_is serial_is =
         ends_done t [] (tells_label t number) (labelled (label code serial)) t [] nothing

@@ -11,14 +11,15 @@ ghost use Rattle.calls.specs.Effects.{outcome_on};
 ghost use Rattle.labelling.specs.Answered.{answer_by};
 
 use segment::Word;
+use tables::Refusal;
 use tables::label_table::{code_in, place_at, serial_in};
-use tables::{Refusal, Verdict};
+use tables::lent::Lent;
 
-// Fault code and machine serial, or a refusal.
-#[derive(Drop)]
-pub enum Labelled {
-    Label(u64, u64),
-    Refused(Refusal),
+// Fault code and machine serial.
+#[derive(Clone, Copy, Debug, PartialEq, Eq)]
+pub struct Labelled {
+    pub code: u64,
+    pub serial: u64,
 }
 
 // Answers a stored trace's label. All tables are lent only to be read and to be long enough: they stay as they were, search work too.
@@ -33,21 +34,24 @@ pub fn label(
     work: &[u64],
     labels: &[u64],
     number: u64,
-) -> Labelled
+) -> Result<Labelled, Refusal>
     ensures { outcome (answer_by result)
         (tables_before control samples nodes links work labels)
         []
         ≡ outcome_on (labelling number)
         (tables_before control samples nodes links work labels) }
 {
-    let verdict = judging::judge(control, samples, nodes, links, work, labels, number);
-    match verdict {
-        Verdict::Refused(why) => Labelled::Refused(why),
-        Verdict::Fine => {
-            let place = place_at(labels, number as usize);
-            let code = code_in(place);
-            let serial = serial_in(place);
-            Labelled::Label(code, serial)
-        }
-    }
+    let lent = Lent {
+        control,
+        samples,
+        nodes,
+        links,
+        work,
+        labels,
+    };
+    judging::judge(lent, number)?;
+    let place = place_at(labels, number as usize);
+    let code = code_in(place);
+    let serial = serial_in(place);
+    Ok(Labelled { code, serial })
 }

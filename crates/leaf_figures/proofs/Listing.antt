@@ -1,18 +1,30 @@
--- Numbers in an array's first places: one more of them, and where each stands.
+-- Listed traces: their runs and rows, one more of them, and where each stands.
+use Rattle.std.specs.Prelude.{Option, IfSome}
+use Rattle.std.specs.Borrow.{Bor}
+use Rattle.std.proofs.lemmas.Option.{IfSome_then}
 use mathlib.Core.Path.{◌≡◌, sym, ap, subst, ◌∙◌}
 use mathlib.Core.Logic.{◌⊎◌, inl, inr}
 use mathlib.Core.List.{List, [], ◌∷◌, ◌++◌, append_assoc}
-use Prim.Native.Nat.{ℕ, ◌+◌, ◌≤◌, ◌<◌}
+use Prim.Native.Nat.{ℕ, ◌+◌, ◌<◌}
 use native.Mathlib.Omega.{arith}
 use native.Mathlib.Numerals.{add-one}
 use lib.ListN.{length, get_or, set, take}
-use lib.Seq.{take-suc, take-suc-set, get_or-take, get_or-set_same, get_or-set_other, length-take-le}
-use Rattle.integer.proofs.Lists.{In, in_get_or, in_snoc, same_or_not}
+use lib.Seq.{take-suc, take-suc-set, get_or-set_same, get_or-set_other}
+use Rattle.integer.proofs.Lists.{In, in_snoc, same_or_not}
+use Rattle.tables.specs.Runs.{Inside, RunOfTrace}
+use Rattle.leaf_figures.specs.Rows.{RowsOn, RowOf}
+use Rattle.leaf_figures.specs.declared.listed.Listed.{Listed}
+use Rattle.leaf_figures.specs.declared.table.Run.{Run}
+use Rattle.leaf_figures.specs.declared.table.Column.{Column}
 
--- what stands in one of the first places is among them
-pub in_listed : (l : List ℕ) (m i : ℕ) → i < m → m ≤ length l → In (get_or l i 0) (take m l)
-in_listed l m i h room =
-    subst (λ (x : ℕ). In x (take m l)) (get_or-take m l i 0 h) (in_get_or (take m l) i 0 (omega (arith, length-take-le m l room)))
+-- a listed trace lies in the samples whole, and so do its runs
+pub listed_run : (l : Listed) (on : Run) (t : ℕ) → In t l.list.now → Inside l.n on.first on.last → RunOfTrace l.samples.now l.n t on.first on.last
+listed_run l on t i inside = record { narrow = l.inside.narrow; room = l.inside.inside t i; inside = inside }
+
+-- where the figures of all traces of a list stand in their rows, those of one of them do
+pub listed_row : (l : Listed) (place : List ℕ) (on : Run) (column : Option (Bor Column)) (t : ℕ) → In t l.list.now
+    → IfSome column (λ c. RowsOn l place on c.now.figures) → IfSome column (λ c. RowOf l place on c.now.figures t)
+listed_row l place on column t i h = IfSome_then column h (λ c r. record { placed = r.placed t i; kept = r.kept t i })
 
 -- one place more
 pub in_more : (l : List ℕ) (i : ℕ) {t : ℕ} → i < length l → In t (take (i + 1) l) → In t (take i l) ⊎ (t ≡ get_or l i 0)

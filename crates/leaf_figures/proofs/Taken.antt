@@ -1,11 +1,13 @@
 -- Figures that are taken one trace after another are the least and the greatest of all of them.
-use Rattle.std.specs.Prelude.{if◌then◌else◌}
+use Rattle.std.specs.Prelude.{if◌then◌else◌, Option, Some, None}
 use mathlib.Core.Path.{◌≡◌, refl, ap, ◌∙◌}
 use mathlib.Core.Bool.{Bool, true, false}
-use mathlib.Core.List.{List, [], ◌∷◌, map, foldl, map-map}
-use Prim.Native.Nat.{ℕ, ◌≤◌, min, max}
+use mathlib.Core.List.{List, [], ◌∷◌, map, foldl, foldl-append, map-map}
+use Prim.Native.Nat.{ℕ, ◌+◌, ◌≤◌, ◌<◌, min, max}
+use native.Mathlib.Numerals.{add-one}
 use native.Mathlib.Omega.{arith}
-use lib.ListN.{get_or}
+use lib.ListN.{length, get_or, take}
+use lib.Seq.{take-suc}
 use lib.IntN.{ℤ, nat_abs}
 use lib.Signed.{lt_z}
 use lib.Dec.{eqb}
@@ -19,16 +21,16 @@ use Rattle.dstree.specs.Figures.{Run, sum_on, scatter_on}
 use Rattle.dstree.specs.Node.{Segment}
 use Rattle.dstree.specs.Adding.{segment_of, traces_of}
 use Rattle.tables.specs.View.{trace_in}
-use Rattle.leaf_figures.specs.Rows.{traces_at}
-use Rattle.leaf_figures.specs.Sides.{marked, no_figures, with_figures, SmallFigures, segment_by}
+use Rattle.leaf_figures.specs.Listed.{traces_at}
+use Rattle.leaf_figures.specs.Sides.{marked, or_none, with_figures, SmallFigures, segment_by}
 use Rattle.leaf_figures.specs.declared.sides.SideRange.{SideRange}
 
 module _ (sum_at : ℕ → ℤ) (scatter_at : ℕ → ℕ) where
-  abbrev taking : SideRange → ℕ → SideRange
-  taking f t = with_figures f (sum_at t) (scatter_at t)
+  abbrev taking : Option SideRange → ℕ → Option SideRange
+  taking f t = Some (with_figures f (sum_at t) (scatter_at t))
 
-  abbrev figures : ℤ → ℤ → ℕ → ℕ → SideRange
-  figures a b c d = record { any = true; least_sum = a; greatest_sum = b; least_scatter = c; greatest_scatter = d }
+  abbrev figures : ℤ → ℤ → ℕ → ℕ → Option SideRange
+  figures a b c d = Some (record { least_sum = a; greatest_sum = b; least_scatter = c; greatest_scatter = d })
 
   more_taken : (a b : ℤ) (c d : ℕ) (l : List ℕ) → foldl taking (figures a b c d) l ≡ figures (foldl lesser a (map sum_at l)) (foldl greater b (map sum_at l))
       (foldl min c (map scatter_at l)) (foldl max d (map scatter_at l))
@@ -46,16 +48,16 @@ module _ (sum_at : ℕ → ℤ) (scatter_at : ℕ → ℕ) where
         (map scatter_at l);
   }
 
-  all_taken : (end : ℕ) (l : List ℕ) → segment_by end (foldl taking no_figures l) ≡ segment end l
+  all_taken : (end : ℕ) (l : List ℕ) → segment_by end (or_none (foldl taking None l)) ≡ segment end l
   unfolding with_figures chosen
   all_taken end [] = refl
-  all_taken end (t ∷ l) = ap (segment_by end) (more_taken (sum_at t) (sum_at t) (scatter_at t) (scatter_at t) l)
+  all_taken end (t ∷ l) = ap (λ (f : Option SideRange). segment_by end (or_none f)) (more_taken (sum_at t) (sum_at t) (scatter_at t) (scatter_at t) l)
 
 -- of a side's traces
 module _ (stored : List Trace) (on : Run) (marks : List ℕ) (mark : ℕ) where
   -- one trace more, if it is on the side
-  abbrev pub side_taking : SideRange → ℕ → SideRange
-  side_taking f t = if eqb (get_or marks t 0) mark then with_figures f (sum_on on (get_or stored t [])) (scatter_on on (get_or stored t [])) else f
+  abbrev pub side_taking : Option SideRange → ℕ → Option SideRange
+  side_taking f t = if eqb (get_or marks t 0) mark then Some (with_figures f (sum_on on (get_or stored t [])) (scatter_on on (get_or stored t []))) else f
 
   abbrev sums : ℕ → ℤ
   sums t = sum_on on (get_or stored t [])
@@ -63,28 +65,32 @@ module _ (stored : List Trace) (on : Run) (marks : List ℕ) (mark : ℕ) where
   abbrev scatters : ℕ → ℕ
   scatters t = scatter_on on (get_or stored t [])
 
-  on_side : (f : SideRange) (l : List ℕ) → foldl side_taking f l ≡ foldl (taking sums scatters) f (marked marks mark l)
+  on_side : (f : Option SideRange) (l : List ℕ) → foldl side_taking f l ≡ foldl (taking sums scatters) f (marked marks mark l)
   unfolding those
   on_side f [] = refl
-  on_side f (t ∷ l) = by (eqb (get_or marks t 0) mark) (λ (g : SideRange). on_side g l)
+  on_side f (t ∷ l) = by (eqb (get_or marks t 0) mark) (λ (g : Option SideRange). on_side g l)
     where
-      by : (b : Bool) → ((g : SideRange) → foldl side_taking g l ≡ foldl (taking sums scatters) g (marked marks mark l))
+      by : (b : Bool) → ((g : Option SideRange) → foldl side_taking g l ≡ foldl (taking sums scatters) g (marked marks mark l))
           → foldl side_taking (if b then taking sums scatters f t else f) l ≡ foldl (taking sums scatters) f (if b then t ∷ marked marks mark l else marked marks mark l)
       by true rec = rec (taking sums scatters f t)
       by false rec = rec f
 
-  pub side_taken : (numbers : List ℕ) → segment_by on.last (foldl side_taking no_figures numbers) ≡ segment_of (traces_of stored (marked marks mark numbers)) on
+  pub side_taken : (numbers : List ℕ) → segment_by on.last (or_none (foldl side_taking None numbers)) ≡ segment_of (traces_of stored (marked marks mark numbers)) on
   unfolding segment_of
   side_taken numbers =
-      ap (segment_by on.last) (on_side no_figures numbers) ∙ all_taken sums scatters on.last (marked marks mark numbers)
+      ap (λ (f : Option SideRange). segment_by on.last (or_none f)) (on_side None numbers) ∙ all_taken sums scatters on.last (marked marks mark numbers)
       ∙ rw (map-map (sum_on on) (λ (number : ℕ). get_or stored number []) (marked marks mark numbers), map-map (scatter_on on) (λ (number : ℕ). get_or stored number []) (marked marks mark numbers))
+
+-- one element more
+pub fold_more : {A : Type 0} (step : A → ℕ → A) (a : A) (l : List ℕ) (i : ℕ) → i < length l → foldl step a (take (i + 1) l) ≡ step (foldl step a (take i l)) (get_or l i 0)
+fold_more step a l i h = rw (add-one i, take-suc l i 0 h) (foldl-append step a (take i l) (get_or l i 0 ∷ []))
 
 -- of the traces of a list
 module _ (samples : List ℤ) (n : ℕ) (on : Run) where
-  abbrev pub taking_at : SideRange → ℕ → SideRange
-  taking_at f t = with_figures f (sum_on on (trace_in samples n t)) (scatter_on on (trace_in samples n t))
+  abbrev pub taking_at : Option SideRange → ℕ → Option SideRange
+  taking_at f t = Some (with_figures f (sum_on on (trace_in samples n t)) (scatter_on on (trace_in samples n t)))
 
-  pub along_taken : (numbers : List ℕ) → segment_by on.last (foldl taking_at no_figures numbers) ≡ segment_of (traces_at samples n numbers) on
+  pub along_taken : (numbers : List ℕ) → segment_by on.last (or_none (foldl taking_at None numbers)) ≡ segment_of (traces_at samples n numbers) on
   unfolding segment_of
   along_taken numbers =
       all_taken (λ t. sum_on on (trace_in samples n t)) (λ t. scatter_on on (trace_in samples n t)) on.last numbers
@@ -106,30 +112,15 @@ greater_small a b m h k = by (lt_z a b)
     by true = k
     by false = h
 
-pub with_small : (f : SideRange) (s : ℤ) (v : ℕ) → SmallFigures f → nat_abs s ≤ sum_most most_samples → v ≤ scatter_most most_samples → SmallFigures (with_figures f s v)
+pub with_small : (f : Option SideRange) (s : ℤ) (v : ℕ) → SmallFigures (or_none f) → nat_abs s ≤ sum_most most_samples → v ≤ scatter_most most_samples → SmallFigures (with_figures f s v)
 unfolding with_figures
-with_small f s v h hs hv = by f.any
-  where
-    more : SideRange
-    more = record {
-      any = true;
-      least_sum = lesser f.least_sum s;
-      greatest_sum = greater f.greatest_sum s;
-      least_scatter = min f.least_scatter v;
-      greatest_scatter = max f.greatest_scatter v;
-    }
-
-    one : SideRange
-    one = record { any = true; least_sum = s; greatest_sum = s; least_scatter = v; greatest_scatter = v }
-
-    by : (b : Bool) → SmallFigures (if b then more else one)
-    by true = record {
-      least_sum_lem = lesser_small f.least_sum s (sum_most most_samples) h.least_sum_lem hs;
-      greatest_sum_lem = greater_small f.greatest_sum s (sum_most most_samples) h.greatest_sum_lem hs;
-      least_scatter_lem = omega (arith, h.least_scatter_lem);
-      greatest_scatter_lem = omega (arith, h.greatest_scatter_lem);
-    }
-    by false = record { least_sum_lem = hs; greatest_sum_lem = hs; least_scatter_lem = hv; greatest_scatter_lem = hv }
+with_small None s v h hs hv = record { least_sum_lem = hs; greatest_sum_lem = hs; least_scatter_lem = hv; greatest_scatter_lem = hv }
+with_small (Some f) s v h hs hv = record {
+  least_sum_lem = lesser_small f.least_sum s (sum_most most_samples) h.least_sum_lem hs;
+  greatest_sum_lem = greater_small f.greatest_sum s (sum_most most_samples) h.greatest_sum_lem hs;
+  least_scatter_lem = omega (arith, h.least_scatter_lem);
+  greatest_scatter_lem = omega (arith, h.greatest_scatter_lem);
+}
 
 -- ---- the sums of small figures, read back
 

@@ -1,73 +1,99 @@
--- Numbers of traces in an array's first places, and their figures on some runs, kept so that samples are read once. What is kept is a table
--- that may lack any run: a run's figures are those of the samples, wherever they are read from.
-use Rattle.std.specs.Prelude.{ℕ, ◌+◌, ◌*◌, ◌≤◌, ◌<◌, ◌≡◌, List, map, ℤ, pos, nat_abs, length, get_or, take}
+-- The figures of some traces on some runs, kept so that samples are read once. What is kept is a table that may lack any run: a run's figures
+-- are those of the samples, wherever they are read from.
+use Rattle.std.specs.Prelude.{ℕ, ◌*◌, ◌+◌, ◌-◌, ◌/◌, ◌≤◌, ◌<◌, ◌≡◌, Some, None, List, pos, nat_abs, length, get_or, replicate}
 use Rattle.integer.specs.Lists.{In}
 use Rattle.segment.specs.Limits.{sum_most, scatter_most}
-use Rattle.dstree.specs.Measures.{Trace, most_samples, most_traces, most_leaf}
+use Rattle.dstree.specs.Measures.{Trace, most_samples, most_leaf, most_traces}
 use Rattle.dstree.specs.Figures.{run, sum_on, scatter_on}
 use Rattle.dstree.specs.Node.{most_segments}
 use Rattle.tables.specs.View.{trace_in}
+use Rattle.tables.specs.Walk.{stored_in}
+use Rattle.segment.specs.declared.figures.Figures.{Figures}
+pub use Rattle.leaf_figures.specs.Listed.{traces_at}
+use Rattle.leaf_figures.specs.declared.listed.Listed.{Listed}
+use Rattle.leaf_figures.specs.declared.table.Run.{Run}
+use Rattle.leaf_figures.specs.declared.table.Column.{Column}
+use Rattle.leaf_figures.specs.declared.table.Table.{Table}
+
+-- the halves of a run, the left one rounded down
+abbrev pub left_half : Run → Run
+left_half r = record { first = r.first; last = r.first + (r.last - r.first + 1) / 2 - 1 }
+
+abbrev pub right_half : Run → Run
+right_half r = record { first = (left_half r).last + 1; last = r.last }
 
 -- A segment and its two halves are runs: three for each of a node's segments
 abbrev pub most_runs : ℕ
 most_runs = 3 * most_segments
 
--- first and last sample of each
-abbrev pub run_places : ℕ
-run_places = 2 * most_runs
-
 -- a column has a figure for each trace of a leaf that is one above the greatest leaf size
 abbrev pub column_rows : ℕ
 column_rows = most_leaf + 1
 
-abbrev pub figure_places : ℕ
-figure_places = most_runs * column_rows
+abbrev pub no_figures_yet : Figures
+no_figures_yet = record { sum = pos 0; scatter = 0 }
 
--- the traces of some numbers
-abbrev pub traces_at : List ℤ → ℕ → List ℕ → List Trace
-traces_at samples n numbers = map (trace_in samples n) numbers
+abbrev pub no_column : Column
+no_column = record { run = None; figures = replicate column_rows no_figures_yet }
 
--- the first `count` places hold numbers of traces that lie in the table whole
-pub record TracesListed (samples : List ℤ) (n : ℕ) (list : List ℕ) (count : ℕ) : Type 0 where
-  pub narrow : n ≤ most_samples
-  pub places : length list ≡ most_traces
-  pub few : count ≤ most_traces
-  pub inside : (t : ℕ) → In t (take count list) → t * n + n ≤ length samples
+-- a trace's figures on a run
+pub record FiguresOf (x : Trace) (on : Run) (own : Figures) : Type 0 where
+  pub sum_is : own.sum ≡ sum_on (run on.first on.last) x
+  pub sum_small : nat_abs own.sum ≤ sum_most most_samples
+  pub scatter_is : own.scatter ≡ scatter_on (run on.first on.last) x
+  pub scatter_small : own.scatter ≤ scatter_most most_samples
 
--- a trace's figures on a run stand at place i
-pub record FiguresAt (x : Trace) (first last : ℕ) (sums : List ℤ) (scatters : List ℕ) (i : ℕ) : Type 0 where
-  pub in_sums : i < length sums
-  pub in_scatters : i < length scatters
-  pub sum_is : get_or sums i (pos 0) ≡ sum_on (run first last) x
-  pub sum_small : nat_abs (get_or sums i (pos 0)) ≤ sum_most most_samples
-  pub scatter_is : get_or scatters i 0 ≡ scatter_on (run first last) x
-  pub scatter_small : get_or scatters i 0 ≤ scatter_most most_samples
+-- a trace's figures on a run stand in a row
+pub record FiguresAt (x : Trace) (on : Run) (figures : List Figures) (row : ℕ) : Type 0 where
+  pub in_column : row < length figures
+  pub own : FiguresOf x on (get_or figures row no_figures_yet)
 
--- 48 runs may have a column of 65 figures each. Run f is from place f to place 48 + f of `runs`, and where that is 0 there is no such run.
--- Trace t is in row `place` t of a column
-pub record Rows (samples : List ℤ) (n : ℕ) (numbers place runs : List ℕ) (sums : List ℤ) (scatters : List ℕ) : Type 0 where
-  pub places : length runs ≡ run_places
-  pub placed : (f t : ℕ) → f < most_runs → 0 < get_or runs (most_runs + f) 0 → In t numbers → t < length place
-  pub kept : (f t : ℕ) → f < most_runs → 0 < get_or runs (most_runs + f) 0 → In t numbers
-      → FiguresAt (trace_in samples n t) (get_or runs f 0) (get_or runs (most_runs + f) 0) sums scatters (f * column_rows + get_or place t 0)
+-- trace t
+abbrev pub trace_of : Listed → ℕ → Trace
+trace_of l t = trace_in l.samples.now l.n t
+
+-- all traces of a list
+abbrev pub all_traces : Listed → List Trace
+all_traces l = traces_at l.samples.now l.n l.list.now
+
+-- all k traces
+abbrev pub stored_of : Listed → List Trace
+stored_of l = stored_in l.samples.now l.n l.k
+
+-- trace t's figures on a run stand in its row
+pub record RowOf (l : Listed) (place : List ℕ) (on : Run) (figures : List Figures) (t : ℕ) : Type 0 where
+  pub placed : t < most_traces
+  pub kept : FiguresAt (trace_of l t) on figures (get_or place t 0)
+
+-- the figures of some traces on a run stand in their rows
+pub record RowsOn (l : Listed) (place : List ℕ) (on : Run) (figures : List Figures) : Type 0 where
+  pub placed : (t : ℕ) → In t l.list.now → t < most_traces
+  pub kept : (t : ℕ) → In t l.list.now → FiguresAt (trace_of l t) on figures (get_or place t 0)
+
+-- 48 runs may have a column of 65 figures each. Trace t is in row `place` t of a column
+pub record HasRows (l : Listed) (table : Table) : Type 0 where
+  pub places : length table.columns ≡ most_runs
+  pub rows : (f : ℕ) (on : Run) → (get_or table.columns f no_column).run ≡ Some on
+      → RowsOn l table.place on (get_or table.columns f no_column).figures
 
 -- ---- while the table is made
 
 -- each number's row is where it stands in the list
-pub record PlacesInList (list : List ℕ) (count : ℕ) (place : List ℕ) : Type 0 where
+pub record PlacesInList (list place : List ℕ) : Type 0 where
   pub places : length place ≡ most_traces
-  pub inside : (t : ℕ) → In t (take count list) → t < most_traces
-  pub row : (t : ℕ) → In t (take count list) → get_or place t 0 < count
-  pub back : (t : ℕ) → In t (take count list) → get_or list (get_or place t 0) 0 ≡ t
+  pub inside : (t : ℕ) → In t list → t < most_traces
+  pub row : (t : ℕ) → In t list → get_or place t 0 < length list
+  pub back : (t : ℕ) → In t list → get_or list (get_or place t 0) 0 ≡ t
 
--- the first m figures of column f
-abbrev pub Column : List ℤ → ℕ → List ℕ → ℕ → ℕ → ℕ → List ℤ → List ℕ → ℕ → Type 0
-Column samples n list f first last sums scatters m =
-    (p : ℕ) → p < m → FiguresAt (trace_in samples n (get_or list p 0)) first last sums scatters (f * column_rows + p)
+-- the first m figures of a column
+abbrev pub FirstRows : Listed → Run → List Figures → ℕ → Type 0
+FirstRows l on figures m = (p : ℕ) → p < m → FiguresAt (trace_of l (get_or l.list.now p 0)) on figures p
 
-pub record Columns (samples : List ℤ) (n : ℕ) (list : List ℕ) (count : ℕ) (runs : List ℕ) (sums : List ℤ) (scatters : List ℕ) : Type 0 where
-  pub runs_places : length runs ≡ run_places
-  pub sums_places : length sums ≡ figure_places
-  pub scatters_places : length scatters ≡ figure_places
-  pub column : (f : ℕ) → f < most_runs → 0 < get_or runs (most_runs + f) 0
-      → Column samples n list f (get_or runs f 0) (get_or runs (most_runs + f) 0) sums scatters count
+-- a column has the figures of the list's traces in the list's order, on the run that it has, if it has one
+pub record FullColumn (l : Listed) (column : Column) : Type 0 where
+  pub places : length column.figures ≡ column_rows
+  pub rows : (on : Run) → column.run ≡ Some on → FirstRows l on column.figures (length l.list.now)
+
+pub record Columns (l : Listed) (columns : List Column) : Type 0 where
+  pub places : length columns ≡ most_runs
+  pub column : (f : ℕ) → FullColumn l (get_or columns f no_column)

@@ -10,7 +10,7 @@ ghost use Rattle.leaf_figures.specs.Ends.{ends_of, EndsRoom, place_in};
 use tables::places::{HEAD, SEGMENT, SEGMENTS};
 use tables::records::small_at;
 
-// The first `count` places hold the ends; the others are not looked at.
+// The first `count` places hold the ends; the others are not looked at. No Vec: nothing is allocated here.
 #[derive(Clone, Copy)]
 pub struct Ends {
     pub at: [usize; 16],
@@ -25,10 +25,8 @@ pub fn ends_of(record: &[i64]) -> Ends
 {
     let count = small_at(record, SEGMENTS);
     let mut at = [0usize; 16];
-    let mut i: usize = 0;
-    while i < count {
+    for i in 0..count {
         at[i] = small_at(record, HEAD + i * SEGMENT);
-        i += 1;
     }
     Ends { at, count }
 }
@@ -41,14 +39,12 @@ fn place_of(e: Ends, middle: usize) -> usize
 {
     let at = e.at;
     let count = e.count;
-    let mut i: usize = 0;
-    while i < count {
+    for i in 0..count {
         if middle < at[i] {
             return i;
         }
-        i += 1;
     }
-    i
+    count
 }
 
 // The ends with one more, in its place: those above it move up by one.
@@ -62,10 +58,8 @@ pub fn with_cut(e: Ends, middle: usize) -> Ends
     let count = e.count;
     let mut at = e.at;
     at[place] = middle;
-    let mut i = place;
-    while i < count {
+    for i in place..count {
         at[i + 1] = from[i];
-        i += 1;
     }
     Ends {
         at,

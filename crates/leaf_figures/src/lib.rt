@@ -4,8 +4,11 @@
 pub mod along;
 pub mod ends;
 pub mod filling;
+pub mod listed;
 pub mod lists;
 pub mod rows;
 pub mod sameness;
 pub mod sides;
 pub mod spread;
+pub mod stored;
+pub mod table;

@@ -6,8 +6,6 @@ ghost use Rattle.dstree.specs.Measures.{most_traces};
 ghost use Rattle.tables.specs.Walk.{Rising, numbers_of};
 ghost use Rattle.leaf_figures.specs.Rows.{PlacesInList};
 
-use tables::numbers::wide;
-
 // The numbers of the list that starts at `head`, in its order. The answer is how many there are; places behind them are not looked at.
 pub fn list_leaf(links: &[u16], k: usize, head: usize, list: &mut [u16; 4096]) -> usize
     requires { (head < k) × (k ≤ most_traces) × (k ≤ length links.now) × Rising links.now k × (length list.old ≡ most_traces) }
@@ -26,15 +24,11 @@ pub fn list_leaf(links: &[u16], k: usize, head: usize, list: &mut [u16; 4096]) -
 }
 
 // Where each number stands in the list.
-pub fn place_list(list: &[u16; 4096], count: usize, place: &mut [u16; 4096])
-    requires { (length list.now ≡ most_traces) × (count ≤ most_traces) × (length place.old ≡ most_traces)
-        × ((t : ℕ) → In t (take count list.now) → t < most_traces) }
-    ensures { PlacesInList list.now count place.new }
+pub fn place_list(list: &[u16], place: &mut [u16; 4096])
+    requires { (length list.now ≤ most_traces) × (length place.old ≡ most_traces) × ((t : ℕ) → In t list.now → t < most_traces) }
+    ensures { PlacesInList list.now place.new }
 {
-    let mut i: usize = 0;
-    while i < count {
-        let t = wide(list[i]);
-        place[t] = i as u16;
-        i += 1;
+    for (i, &number) in list.iter().enumerate() {
+        place[usize::from(number)] = i as u16;
     }
 }

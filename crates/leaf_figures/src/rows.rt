@@ -1,64 +1,49 @@
-// Figures from the table of those that are kept, or else from the samples.
+// The figures that are kept of a list's traces, so that samples are read once, and figures from them, or else from the samples.
 
-ghost use Rattle.std.specs.Prelude.{◌≡◌, ◌+◌, ◌*◌, ◌≤◌, ◌<◌, nat_abs, length, get_or};
-ghost use Rattle.segment.specs.Limits.{sum_most, scatter_most};
-ghost use Rattle.dstree.specs.Figures.{run, sum_on, scatter_on};
-ghost use Rattle.dstree.specs.Measures.{most_samples};
-ghost use Rattle.tables.specs.View.{trace_in};
+ghost use Rattle.std.specs.Prelude.{◌≡◌, Some, IfSome};
 ghost use Rattle.tables.specs.Runs.{RunOfTrace};
-ghost use Rattle.leaf_figures.specs.Rows.{FiguresAt, column_rows, most_runs, run_places};
+ghost use Rattle.leaf_figures.specs.Rows.{HasRows, RowsOn, RowOf, FiguresOf, trace_of};
 
-use segment::Word;
+use crate::listed::Listed;
+use crate::table::{Column, Run, Table};
 use segment::figures::Figures;
-use tables::numbers::wide;
 use tables::runs::{figures_on, trace_at};
 
-// The column of a run, if it is the one that the caller thinks of; 48 for none. So a wrong guess costs time and nothing else.
-pub fn column_of(runs: &[usize; 96], guess: usize, first: usize, last: usize) -> usize
-    requires { length runs.now ≡ run_places }
-    ensures first { result < most_runs → get_or runs.now result 0 ≡ first }
-    ensures last { result < most_runs → get_or runs.now (most_runs + result) 0 ≡ last }
-{
-    if 48 <= guess {
-        return 48;
-    }
-    if runs[guess] != first {
-        return 48;
-    }
-    if runs[48 + guess] != last {
-        return 48;
-    }
-    guess
+// Some traces, and the table of what is kept of their figures. It may have been made for more traces than these.
+#[derive(Clone, Copy)]
+pub struct Rows<'a> {
+    pub traces: Listed<'a>,
+    pub table: &'a Table,
+    pub ghost rows: { HasRows traces table.now },
 }
 
-// Trace t's figures on a run: from its row of a column, or from its samples where there is no column.
-pub fn figures_at(
-    samples: &[Word],
-    n: usize,
-    place: &[u16],
-    sums: &[i64],
-    scatters: &[u64],
-    column: usize,
-    t: usize,
-    first: usize,
-    last: usize,
-) -> Figures
-    requires { RunOfTrace samples.now n t first last × (column < most_runs → t < length place.now)
-        × (column < most_runs → FiguresAt (trace_in samples.now n t) first last sums.now scatters.now
-        (column * column_rows + get_or place.now t 0)) }
-    ensures sum { (result.sum ≡ sum_on (run first last) (trace_in samples.now n t))
-        × (nat_abs result.sum ≤ sum_most most_samples) }
-    ensures scatter { (result.scatter ≡ scatter_on (run first last) (trace_in samples.now n t))
-        × (result.scatter ≤ scatter_most most_samples) }
-{
-    if column < 48 {
-        let at = column * 65 + wide(place[t]);
-        Figures {
-            sum: sums[at],
-            scatter: scatters[at],
+impl<'a> Rows<'a> {
+    // The column of a run, if it is the one that the caller thinks of. So a wrong guess costs time and nothing else.
+    pub fn column_of(self, guess: Option<usize>, on: Run) -> Option<&'a Column>
+        ensures rows { IfSome result (λ c. RowsOn self.entry.traces self.entry.table.now.place on c.now.figures) }
+        ensures of_run { IfSome result (λ c. c.now.run ≡ Some on) }
+    {
+        let column = self.table.columns.get(guess?)?;
+        if column.run? == on {
+            Some(column)
+        } else {
+            None
         }
-    } else {
-        let trace = trace_at(samples, n, t);
-        figures_on(trace, first, last)
+    }
+
+    // Trace t's figures on a run: from its row of a column, or from its samples where there is no column.
+    pub fn figures_at(self, column: Option<&Column>, t: usize, on: Run) -> Figures
+        requires { RunOfTrace self.traces.samples.now self.traces.n t on.first on.last
+            × IfSome column (λ c. RowOf self.traces self.table.now.place on c.now.figures t) }
+        ensures { FiguresOf (trace_of self.entry.traces t) on result }
+    {
+        match column {
+            Some(c) => c.figures[usize::from(self.table.place[t])],
+            None => figures_on(
+                trace_at(self.traces.samples, self.traces.n, t),
+                on.first,
+                on.last,
+            ),
+        }
     }
 }

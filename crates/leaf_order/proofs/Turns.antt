@@ -2,7 +2,7 @@
 -- an inner node, in whose stead its children wait, for the same leaves.
 use Prim.Native.Nat.{ℕ, suc, ◌+◌, ◌-◌, ◌≤◌, ◌<◌}
 use mathlib.Core.Path.{◌≡◌, sym, ◌∙◌, ap, subst}
-use mathlib.Core.Bool.{Bool, true, false}
+use mathlib.Core.Bool.{true, false}
 use mathlib.Core.List.{List, [], ◌∷◌, map}
 use native.Mathlib.Omega.{arith}
 use lib.ListN.{length, take}
@@ -23,15 +23,16 @@ use Rattle.best_first.specs.Waiting.{to_come, nodes_waiting}
 use Rattle.best_first.proofs.Order.{Front, length_load, number_inside, come_first, come_leaf, load_leaf, front_leaf}
 use Rattle.best_first.proofs.Order.{come_inner, load_inner, front_inner, come_start, load_start, front_start}
 use Rattle.best_first.proofs.Reading.{leaves_in_order}
+use Rattle.std.specs.Prelude.{Option, Some, None}
 use Rattle.leaf_order.specs.Waits.{keys_in, Waits, remaining, Begun}
 use Rattle.leaf_order.specs.Handed.{is_past, Past, HandedLeaf}
 
 -- ---- limits
 
-past_more : (limited : Bool) (limit a b : ℕ) → a ≤ b → is_past limited limit a ≡ true → is_past limited limit b ≡ true
+past_more : (limit : Option ℕ) (a b : ℕ) → a ≤ b → is_past limit a ≡ true → is_past limit b ≡ true
 unfolding is_past
-past_more true limit a b h e = lt-ltb limit b (omega (arith, ltb-true limit a e))
-past_more false limit a b h e = absurd (is_true e)
+past_more (Some limit) a b h e = lt-ltb limit b (omega (arith, ltb-true limit a e))
+past_more None a b h e = absurd (is_true e)
 
 -- ---- keys
 
@@ -79,12 +80,12 @@ module _ {tree : Tree} {query : Trace} {n : ℕ} {work : List ℕ} (w : Waits tr
   least_number b whole = omega (arith, number_inside tree b query x others front, whole)
 
   -- if its bound is past the limit, so is that of every leaf to come
-  pub least_past : Branching tree → (limited : Bool) (limit : ℕ) → is_past limited limit (key_bound x) ≡ true → All (Past limited limit) (remaining tree query n work)
-  least_past b limited limit e = rw remain (by (to_come tree query (x ∷ others)) (come_first tree b query x others front))
+  pub least_past : Branching tree → (limit : Option ℕ) → is_past limit (key_bound x) ≡ true → All (Past limit) (remaining tree query n work)
+  least_past b limit e = rw remain (by (to_come tree query (x ∷ others)) (come_first tree b query x others front))
     where
-      by : (l : List ℕ) → Above x l → All (Past limited limit) (map key_leaf l)
+      by : (l : List ℕ) → Above x l → All (Past limit) (map key_leaf l)
       by [] a = all_none
-      by (y ∷ l) a = all_more (past_more limited limit (key_bound x) (key_bound y) (omega (arith, a.0)) e) (by l a.1)
+      by (y ∷ l) a = all_more (past_more limit (key_bound x) (key_bound y) (omega (arith, a.0)) e) (by l a.1)
 
   -- ---- its node has two children
 
@@ -161,9 +162,10 @@ module _ {tree : Tree} {query : Trace} {n : ℕ} {work : List ℕ} {x : ℕ} {le
 
   -- its node is a leaf
   module _ {ns : List ℕ} (e : (node_at tree (key_number x)).kind ≡ leaf ns) where
-    pub took_leaf : (limited : Bool) (limit : ℕ) → is_past limited limit (key_bound x) ≡ false → HandedLeaf tree query limited limit n work left (key_bound x) (key_number x) (n - 1)
+    pub took_leaf : (limit : Option ℕ) → is_past limit (key_bound x) ≡ false
+        → HandedLeaf tree query limit n (n - 1) work left (record { bound = key_bound x; number = key_number x })
     unfolding remaining is_leaf_kind
-    took_leaf limited limit p = record {
+    took_leaf limit p = record {
       first = remain c.waits c.popped.keys ∙ ap (map key_leaf) (come_leaf tree c.branching query x others ahead e);
       inside = number_inside tree c.branching query x others ahead;
       is_leaf = rw e tt;

@@ -1,34 +1,35 @@
 -- What asking for the next leaf leaves. The leaves to come begin with the one that is handed out, and the keys then stand for the others;
 -- or none of them is within the limit, and the keys still stand for all of them.
-use Rattle.std.specs.Prelude.{ℕ, ◌<◌, ◌≡◌, Bool, true, false, ◌&&◌, List, ◌∷◌, length, T, ltb}
+use Rattle.std.specs.Prelude.{ℕ, ◌<◌, ◌≡◌, Bool, true, false, List, ◌∷◌, length, T, ltb, Option, Some, None}
 use Rattle.integer.specs.Lists.{All}
 use Rattle.dstree.specs.Measures.{Trace}
 use Rattle.dstree.specs.Node.{Tree, node_at}
 use Rattle.dstree.specs.Matching.{LeafBound, is_leaf_kind}
 use Rattle.leaf_order.specs.Waits.{Waits, remaining}
-use Rattle.leaf_order.specs.declared.leaves.Next.{Next}
-use Rattle.leaf_order.specs.declared.leaves.Next.TheVariants as next
+use Rattle.leaf_order.specs.declared.leaves.Leaf.{Leaf}
 
 -- the bound is above the limit, if there is one
-unfoldable pub is_past : Bool → ℕ → ℕ → Bool
-is_past limited limit bound = limited && ltb limit bound
+unfoldable pub is_past : Option ℕ → ℕ → Bool
+is_past None bound = false
+is_past (Some limit) bound = ltb limit bound
 
-abbrev pub Past : Bool → ℕ → LeafBound → Type 0
-Past limited limit a = is_past limited limit a.bound ≡ true
+abbrev pub Past : Option ℕ → LeafBound → Type 0
+Past limit a = is_past limit a.bound ≡ true
 
-module _ (tree : Tree) (query : Trace) (limited : Bool) (limit n : ℕ) (work work' : List ℕ) where
-  pub record HandedLeaf (bound number left : ℕ) : Type 0 where
-    pub first : remaining tree query n work ≡ record { number = number; bound = bound } ∷ remaining tree query left work'
-    pub inside : number < length tree
-    pub is_leaf : T (is_leaf_kind (node_at tree number).kind)
-    pub within : is_past limited limit bound ≡ false
+-- n keys wait before, and `left` after
+module _ (tree : Tree) (query : Trace) (limit : Option ℕ) (n left : ℕ) (work work' : List ℕ) where
+  pub record HandedLeaf (leaf : Leaf) : Type 0 where
+    pub first : remaining tree query n work ≡ record { number = leaf.number; bound = leaf.bound } ∷ remaining tree query left work'
+    pub inside : leaf.number < length tree
+    pub is_leaf : T (is_leaf_kind (node_at tree leaf.number).kind)
+    pub within : is_past limit leaf.bound ≡ false
     pub waits : Waits tree query left work'
 
-  pub record NoneWithin (left : ℕ) : Type 0 where
-    pub past : All (Past limited limit) (remaining tree query n work)
+  pub record NoneWithin : Type 0 where
+    pub past : All (Past limit) (remaining tree query n work)
     pub same : remaining tree query left work' ≡ remaining tree query n work
     pub waits : Waits tree query left work'
 
-  unfoldable pub Handed : Next → Type 0
-  Handed (next.Leaf bound number left) = HandedLeaf bound number left
-  Handed (next.End left) = NoneWithin left
+  unfoldable pub Handed : Option Leaf → Type 0
+  Handed (Some leaf) = HandedLeaf leaf
+  Handed None = NoneWithin

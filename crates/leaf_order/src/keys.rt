@@ -3,39 +3,31 @@ ghost use Rattle.std.specs.Prelude.{◌≡◌, ◌+◌, ◌*◌, ◌≤◌, ◌<
 ghost use Rattle.segment.specs.Stored.{samples_of};
 ghost use Rattle.tables.specs.Layout.{record_places};
 ghost use Rattle.tables.specs.Tables.{record_of};
-ghost use Rattle.prefixes.specs.Prefixes.{Prefixes};
 ghost use Rattle.query.specs.Bounded.{Bounded, bound_by};
 ghost use Rattle.best_first.specs.NodeKeys.{key_base, key_of, bounds_below};
 ghost use Rattle.leaf_order.specs.Handed.{is_past};
 
-use segment::Word;
+use prefixes::Summed;
 
 pub const KEY_BASE: u64 = 8192; // a key is bound * KEY_BASE + number
 
 // The key of node j, whose parent has the bound `above`. That bound is one that a key holds, and so a child's key fits too.
-pub fn node_key(
-    nodes: &[i64],
-    j: usize,
-    above: u64,
-    query: &[Word],
-    sums: &[i64; 257],
-    squares: &[u64; 257],
-) -> u64
+pub fn node_key(nodes: &[i64], j: usize, above: u64, query: &Summed) -> u64
     requires { (j * record_places + record_places ≤ length nodes.now) × (j < key_base) × (above < bounds_below)
-        × Prefixes (samples_of query.now) sums.now squares.now × Bounded (record_of nodes.now j) (length query.now) }
-    ensures { result ≡ key_of (max (bound_by (samples_of query.now) (record_of nodes.now j)) above) j }
+        × Bounded (record_of nodes.now j) (length query.now.trace.now) }
+    ensures { result ≡ key_of (max (bound_by (samples_of query.now.trace.now) (record_of nodes.now j)) above) j }
 {
     let record = tables::records::record_at(nodes, j);
-    let own = query::bound::own_bound(record, query, sums, squares);
-    segment_bound::terms::larger(own, above) * KEY_BASE + j as u64
+    let own = query::bound::own_bound(record, query);
+    own.max(above) * KEY_BASE + j as u64
 }
 
 // The bound is above the limit, if there is one. An equal bound is not.
-pub fn is_past(bound: u64, limited: bool, limit: u64) -> bool
-    ensures { result ≡ is_past limited limit bound }
+pub fn is_past(bound: u64, limit: Option<u64>) -> bool
+    ensures { result ≡ is_past limit bound }
 {
-    if !limited {
-        return false;
+    match limit {
+        Some(limit) => limit < bound,
+        None => false,
     }
-    limit < bound
 }

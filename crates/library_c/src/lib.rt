@@ -51,7 +51,7 @@ pub fn silkendoz_open(
     let answer = opening::open(
         control, samples, nodes, links, work, labels, n, capacity, leaf_size,
     );
-    telling::tell_opened(answer, out)
+    telling::tell_done(answer, out)
 }
 
 // Two wrong programs that the contract rules out: one that tells the trace's number as its code, and one that clears `out` when it refuses.
@@ -73,7 +73,7 @@ pub fn silkendoz_add(
         out.old }
 {
     let answer = adding::add(control, samples, nodes, links, work, labels, trace);
-    telling::tell_added(answer, out)
+    telling::tell_number(answer, out)
 }
 
 // Two wrong programs that the contract rules out: one that takes the code's low byte alone, and one that tells the code for the trace's
@@ -100,7 +100,7 @@ pub fn silkendoz_add_labelled(
     let answer = adding::add_labelled(
         control, samples, nodes, links, work, labels, trace, code, serial,
     );
-    telling::tell_added(answer, out)
+    telling::tell_number(answer, out)
 }
 
 // Two wrong programs that the contract rules out: one that tells leaves and traces in the other order, and one that refuses a short `out`.
@@ -176,7 +176,7 @@ pub fn silkendoz_write_sheet(
         out.old }
 {
     let answer = sheet_writing::write_sheet(control, samples, nodes, links, work, labels, sheet);
-    telling::tell_written(answer, out)
+    telling::tell_number(answer, out)
 }
 
 // Two wrong programs that the contract rules out: one that tells place 0 for every torn sheet, and one that tells the number of traces
@@ -199,7 +199,7 @@ pub fn silkendoz_read_sheet(
         out.old }
 {
     let answer = sheet_reading::read_sheet(control, samples, nodes, links, work, labels, sheet);
-    telling::tell_read(answer, out)
+    telling::tell_done(answer, out)
 }
 
 // Two wrong programs that the contract rules out: one that tells the number of the last trace added, and one that tells how many traces fit
@@ -222,7 +222,7 @@ pub fn silkendoz_import_recording(
         out.old }
 {
     let answer = importing::import_recording(control, samples, nodes, links, work, labels, bytes);
-    telling::tell_imported(answer, out)
+    telling::tell_number(answer, out)
 }
 
 // Two wrong programs that the contract rules out: one that gives the number as the rate too, and one that tells the length of the buffer.
@@ -248,7 +248,7 @@ pub fn silkendoz_export_recording(
     let answer = exporting::export_recording(
         control, samples, nodes, links, work, labels, buffer, number, rate,
     );
-    telling::tell_exported(answer, out)
+    telling::tell_number(answer, out)
 }
 
 // Two wrong programs that the contract rules out: one that gives 3 for a loose record, and one that zeroes `out` when it accepts.
@@ -269,7 +269,7 @@ pub fn silkendoz_check_tables(
         out.old }
 {
     let answer = checking::check_tables(control, samples, nodes, links, work, labels);
-    telling::tell_checked(answer, out)
+    telling::tell_done(answer, out)
 }
 
 // Two wrong programs that the contract rules out: one that tells the serial first, and one that tells a code of 0 for a refusal.
@@ -344,7 +344,7 @@ pub fn silkendoz_count_bands(
     let answer = banding::count_bands(
         control, samples, nodes, links, work, labels, list, query, edges,
     );
-    telling::tell_banded(answer, out)
+    telling::tell_done(answer, out)
 }
 
 // The winning trace is laid into `won`, which has to lead to some slice when the call begins.
@@ -457,7 +457,7 @@ pub fn silkendoz_match_clipped(
     let answer = clipping::match_clipped(
         control, samples, nodes, links, work, labels, list, lows, highs,
     );
-    telling::tell_clipped(answer, out)
+    telling::tell_number(answer, out)
 }
 
 // The list is lent as records, a struct of two numbers each, and has one for each query.
@@ -489,5 +489,5 @@ pub fn silkendoz_match_batch(
         control, samples, nodes, links, work, labels, trail, queries, many, places,
     );
     batch_answers::store(found, answers);
-    telling::tell_batched(found, out)
+    telling::tell_number(found.outcome, out)
 }

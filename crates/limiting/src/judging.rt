@@ -6,17 +6,24 @@ ghost use Rattle.dstree.specs.Refusals.{first_of};
 ghost use Rattle.tables.specs.Layout.{node_count_place, record_places, node_places};
 ghost use Rattle.tables.specs.Tables as t;
 ghost use Rattle.tables.specs.Tables.{tables};
-ghost use Rattle.tables.specs.Lent.{tables_before};
+ghost use Rattle.tables.specs.Shared.{tables_lent};
 ghost use Rattle.tables.specs.Answers.{found_by};
 ghost use Rattle.calls.specs.Effects.{limit_conditions_in, limits};
 
 use query_judging::judge_query;
-use segment::{Sample, Word};
-use tables::{Refusal, Verdict};
+use segment::Sample;
+use tables::Refusal;
+use tables::lent::Lent;
 use well_formed::judging::judge_tables;
 
 // What is refused behind the tables. A limit past all leaves is none.
-fn judge_own(control: &[u16], nodes: &[i64], query: &[Sample], trail: &[u16], most: u64) -> Verdict
+fn judge_own(
+    control: &[u16],
+    nodes: &[i64],
+    query: &[Sample],
+    trail: &[u16],
+    most: u64,
+) -> Result<(), Refusal>
     requires { (t.field control.now node_count_place * record_places ≤ length nodes.now)
         × (t.field control.now node_count_place ≤ node_places) }
     ensures { (samples : List ℤ) (links work : List ℕ) → found_by result ≡ first_of (limit_conditions_in
@@ -24,29 +31,16 @@ fn judge_own(control: &[u16], nodes: &[i64], query: &[Sample], trail: &[u16], mo
         query.now trail.now) }
 {
     if most == 0 {
-        return Verdict::Refused(Refusal::NoLeaves);
+        return Err(Refusal::NoLeaves);
     }
     judge_query(control, nodes, query, trail)
 }
 
-pub fn judge(
-    control: &[u16],
-    samples: &[Word],
-    nodes: &[i64],
-    links: &[u16],
-    work: &[u64],
-    labels: &[u64],
-    query: &[Sample],
-    trail: &[u16],
-    most: u64,
-) -> Verdict
+pub fn judge(lent: Lent, query: &[Sample], trail: &[u16], most: u64) -> Result<(), Refusal>
     ensures { found_by result ≡ first_of (limits
-        (tables_before control samples nodes links work labels)
+        (tables_lent lent.entry)
         most query.now trail.now).conditions }
 {
-    let made = judge_tables(control, samples, nodes, links, work, labels);
-    match made {
-        Verdict::Refused(why) => Verdict::Refused(why),
-        Verdict::Fine => judge_own(control, nodes, query, trail, most),
-    }
+    judge_tables(lent)?;
+    judge_own(lent.control, lent.nodes, query, trail, most)
 }

@@ -3,62 +3,29 @@
 
 pub mod judging; // what a match with a limit refuses
 
-ghost use Rattle.std.specs.Prelude.{◌≡◌, [], ◌∷◌, ◌≤◌, length};
-ghost use Rattle.segment.specs.Limits.{sample_most, SamplesWithin};
-ghost use Rattle.dstree.specs.Measures.{work_needed};
+ghost use Rattle.std.specs.Prelude.{◌≡◌, [], ◌∷◌};
 ghost use Rattle.dstree.specs.Book.{limiting};
-ghost use Rattle.tables.specs.Tables.{measures_of};
 ghost use Rattle.tables.specs.Lent.{tables_after_search, tables_before_search};
 ghost use Rattle.calls.specs.Outcome.{outcome};
 ghost use Rattle.calls.specs.Effects.{outcome_on};
-ghost use Rattle.search.specs.Searched.{without_work, Ready, MatchedWithin};
 ghost use Rattle.limiting.specs.Answered.{answer_by};
 
-use search::searching::{BestSoFar, search_within};
+use search::searching::search_within;
+use search::stored::Stored;
 use segment::{Sample, Word};
-use tables::{Refusal, Verdict};
+use tables::Refusal;
+use tables::given::words_for;
+use tables::lent::Lent;
 
-// Trace number, distance, leaves read and traces read: of the match, if the whole trail was read; else of the best so far, and the bound of
-// the first unread leaf. Or a refusal.
-#[derive(Drop)]
-pub enum Limited {
-    Settled(u64, u64, u64, u64),
-    Open(u64, u64, u64, u64, u64),
-    Refused(Refusal),
-}
-
-// The search, for a query of plain samples: it is made words first.
-fn search_given(
-    control: &[u16],
-    samples: &[Word],
-    nodes: &[i64],
-    links: &[u16],
-    query: &[Sample],
-    work: &mut [u64],
-    trail: &mut [u16],
-    most: u64,
-) -> BestSoFar
-    requires { Ready (without_work control.now samples.now nodes.now links.now) query.now (length trail.old)
-        × (work_needed (measures_of (without_work control.now samples.now nodes.now links.now)) ≤ length work.old)
-        × SamplesWithin sample_most query.now }
-    ensures { MatchedWithin most (without_work control.now samples.now nodes.now
-        links.now)
-        query.now work.old work.new trail.old trail.new result.trace result.distance
-        result.out result.traces result.unread result.bound }
-{
-    let mut words: [Word; 256] = [0; 256];
-    tables::given::words_of(query, &mut words);
-    let n = query.len();
-    search_within(
-        control,
-        samples,
-        nodes,
-        links,
-        &words[..n],
-        work,
-        trail,
-        most,
-    )
+// Trace number, distance, leaves read and traces read: of the match, if the whole trail was read; else of the best so far, with the bound of
+// the first unread leaf.
+#[derive(Clone, Copy, Debug, PartialEq, Eq)]
+pub struct Limited {
+    pub trace: u64,
+    pub distance: u64,
+    pub leaves: u64,
+    pub traces: u64,
+    pub unread: Option<u64>,
 }
 
 // Finds the nearest trace in the first leaves of the match's trail, at most so many. Every refusal is decided before anything is written.
@@ -76,35 +43,36 @@ pub fn match_within(
     trail: &mut [u16],
     query: &[Sample],
     most: u64,
-) -> Limited
+) -> Result<Limited, Refusal>
     ensures { outcome (answer_by result trail.new)
         (tables_after_search control samples nodes links work labels)
         (trail.new ∷ [])
         ≡ outcome_on (limiting most query.now trail.old)
         (tables_before_search control samples nodes links work labels) }
 {
-    let verdict = judging::judge(
-        control, samples, nodes, links, work, labels, query, trail, most,
-    );
-    match verdict {
-        Verdict::Refused(why) => Limited::Refused(why),
-        Verdict::Fine => {
-            let seen = search_given(control, samples, nodes, links, query, work, trail, most);
-            if seen.unread {
-                return Limited::Open(
-                    seen.trace,
-                    seen.distance,
-                    seen.out as u64,
-                    seen.traces as u64,
-                    seen.bound,
-                );
-            }
-            Limited::Settled(
-                seen.trace,
-                seen.distance,
-                seen.out as u64,
-                seen.traces as u64,
-            )
-        }
-    }
+    let lent = Lent {
+        control,
+        samples,
+        nodes,
+        links,
+        work,
+        labels,
+    };
+    judging::judge(lent, query, trail, most)?;
+    let mut words: [Word; 256] = [0; 256];
+    let words = words_for(query, &mut words);
+    let stored = Stored {
+        control,
+        samples,
+        nodes,
+        links,
+    };
+    let seen = search_within(stored, words, work, trail, most);
+    Ok(Limited {
+        trace: seen.trace,
+        distance: seen.distance,
+        leaves: seen.out as u64,
+        traces: seen.traces as u64,
+        unread: seen.unread,
+    })
 }

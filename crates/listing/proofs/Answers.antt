@@ -22,7 +22,7 @@ use Rattle.calls.specs.Outcome.{outcome}
 use Rattle.calls.specs.Effects.{lists, effect_of, outcome_on}
 use Rattle.calls.proofs.Ends.{ends_done, over_first}
 use Rattle.listing.specs.Answered.{answer_by}
-use Rattle.listing.specs.declared.Listed.TheVariants as l
+use Rattle.std.specs.Prelude.{Ok}
 
 module _ (control : List ℕ) (samples nodes : List ℤ) (links work labels : List ℕ) (k : ℕ) (query : Trace) (trail list : List ℕ) where
   abbrev lent : Tables
@@ -58,7 +58,7 @@ module _ (control : List ℕ) (samples nodes : List ℤ) (links work labels : Li
     list_is = list_over many list list' in_list s.visited.list_rest
 
     pub list_answer : first_of (lists lent k query trail list).conditions ≡ none
-        → outcome (answer_by (l.Found out traces many) trail' list') (labelled_tables control samples nodes links work' labels) (trail' ∷ list' ∷ [])
+        → outcome (answer_by (Ok record { leaves = out; traces = traces; many = many }) trail' list') (labelled_tables control samples nodes links work' labels) (trail' ∷ list' ∷ [])
         ≡ outcome_on (book.listing k query trail list) lent
     unfolding answer_by outcome_on effect_of beside_of
     list_answer e =

@@ -7,13 +7,14 @@ ghost use Rattle.dstree.specs.Refusals.{first_of};
 ghost use Rattle.tables.specs.Layout.{node_count_place, record_places, node_places};
 ghost use Rattle.tables.specs.Tables as t;
 ghost use Rattle.tables.specs.Tables.{tables};
-ghost use Rattle.tables.specs.Lent.{tables_before};
+ghost use Rattle.tables.specs.Shared.{tables_lent};
 ghost use Rattle.tables.specs.Answers.{found_by};
 ghost use Rattle.calls.specs.Effects.{list_conditions_in, lists};
 
 use query_judging::judge_query;
-use segment::{Sample, Word};
-use tables::{Refusal, Verdict};
+use segment::Sample;
+use tables::Refusal;
+use tables::lent::Lent;
 use well_formed::judging::judge_tables;
 
 // k is from 1 to 16. At full width: no number wraps into that.
@@ -34,7 +35,7 @@ fn judge_own(
     trail: &[u16],
     list: &[u64],
     k: u64,
-) -> Verdict
+) -> Result<(), Refusal>
     requires { (t.field control.now node_count_place * record_places ≤ length nodes.now)
         × (t.field control.now node_count_place ≤ node_places) }
     ensures { (samples : List ℤ) (links work : List ℕ) → found_by result ≡ first_of (list_conditions_in
@@ -42,39 +43,26 @@ fn judge_own(
         query.now trail.now list.now) }
 {
     if !is_k(k) {
-        return Verdict::Refused(Refusal::BadK);
+        return Err(Refusal::BadK);
     }
-    let asked = judge_query(control, nodes, query, trail);
-    match asked {
-        Verdict::Refused(why) => Verdict::Refused(why),
-        Verdict::Fine => {
-            if list.len() < 2 * (k as usize) {
-                return Verdict::Refused(Refusal::ShortTrail);
-            }
-            Verdict::Fine
-        }
+    judge_query(control, nodes, query, trail)?;
+    if list.len() < 2 * (k as usize) {
+        return Err(Refusal::ShortTrail);
     }
+    Ok(())
 }
 
 pub fn judge(
-    control: &[u16],
-    samples: &[Word],
-    nodes: &[i64],
-    links: &[u16],
-    work: &[u64],
-    labels: &[u64],
+    lent: Lent,
     query: &[Sample],
     trail: &[u16],
     list: &[u64],
     k: u64,
-) -> Verdict
+) -> Result<(), Refusal>
     ensures { found_by result ≡ first_of (lists
-        (tables_before control samples nodes links work labels)
+        (tables_lent lent.entry)
         k query.now trail.now list.now).conditions }
 {
-    let made = judge_tables(control, samples, nodes, links, work, labels);
-    match made {
-        Verdict::Refused(why) => Verdict::Refused(why),
-        Verdict::Fine => judge_own(control, nodes, query, trail, list, k),
-    }
+    judge_tables(lent)?;
+    judge_own(lent.control, lent.nodes, query, trail, list, k)
 }

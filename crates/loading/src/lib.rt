@@ -94,9 +94,7 @@ pub fn load(
         ≡ foldl added_to (tables control.old samples.old nodes.old links.old work)
         (take count (traces_by source n bytes.now)) }
 {
-    let mut number = 0;
-    while number < count {
+    for number in 0..count {
         put_one(control, samples, nodes, links, source, bytes, n, number);
-        number += 1;
     }
 }

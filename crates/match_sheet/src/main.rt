@@ -5,7 +5,8 @@ ghost use Rattle.std.specs.Prelude.{◌≤◌, length, IfOk};
 
 use std::io::{self, Read, Write};
 
-// Reads until `out` is full or the input ends, and how many bytes that were.
+// Reads until `out` is full or the input ends, and how many bytes that were. The library's `read_to_end` wants a Vec, which this program
+// has none of, and reads on after an interruption, where this one ends with the error.
 fn read_full(input: &mut impl Read, out: &mut [u8]) -> io::Result<usize>
     ensures { IfOk result (λ size. size ≤ length out.new) }
 {

@@ -17,7 +17,7 @@ use Rattle.calls.specs.Effects.{matches, effect_of, outcome_on}
 use Rattle.calls.proofs.Ends.{ends_done, over_first}
 use Rattle.search.specs.Searched.{without_work, match_by, Searched}
 use Rattle.matching.specs.Answered.{answer_by}
-use Rattle.matching.specs.declared.Found.TheVariants as f
+use Rattle.std.specs.Prelude.{Ok}
 
 module _ (control : List ℕ) (samples nodes : List ℤ) (links work labels : List ℕ) (query : Trace) (trail : List ℕ) where
   abbrev lent : Tables
@@ -33,7 +33,7 @@ module _ (control : List ℕ) (samples nodes : List ℤ) (links work labels : Li
     trail_is = over_first out trail trail' (omega (arith, s.within, size)) s.trail_rest
 
     pub found_answer : first_of (matches lent query trail).conditions ≡ none
-        → outcome (answer_by (f.At trace distance out traces) trail') (labelled_tables control samples nodes links work' labels) (trail' ∷ [])
+        → outcome (answer_by (Ok record { trace = trace; distance = distance; leaves = out; traces = traces }) trail') (labelled_tables control samples nodes links work' labels) (trail' ∷ [])
         ≡ outcome_on (matching query trail) lent
     unfolding answer_by outcome_on effect_of beside_of
     found_answer q =

@@ -1,12 +1,12 @@
 -- What `nearest` answers, in document 01's terms: with the trail's beginning, which code leaves in the trail.
-use Rattle.std.specs.Prelude.{ℕ, List, take}
+use Rattle.std.specs.Prelude.{ℕ, List, take, Result, Ok, Err}
 use Rattle.dstree.specs.Book.{Answer, answering, refusing, matched}
 use Rattle.tables.specs.Answers.{word_of}
+use Rattle.tables.specs.declared.Refusal.{Refusal}
 use Rattle.matching.specs.declared.Found.{Found}
-use Rattle.matching.specs.declared.Found.TheVariants as f
 
 -- "The answer is trace number, distance, leaves read and traces read"
-unfoldable pub answer_by : Found → List ℕ → Answer
-answer_by (f.At trace distance leaves traces) trail =
-    answering (matched (record { trace = trace; distance = distance; leaves = leaves; traces = traces; trail = take leaves trail }))
-answer_by (f.Refused why) trail = refusing (word_of why)
+unfoldable pub answer_by : Result Found Refusal → List ℕ → Answer
+answer_by (Ok f) trail =
+    answering (matched (record { trace = f.trace; distance = f.distance; leaves = f.leaves; traces = f.traces; trail = take f.leaves trail }))
+answer_by (Err why) trail = refusing (word_of why)

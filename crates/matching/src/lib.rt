@@ -3,49 +3,27 @@
 
 pub mod judging; // what a match refuses
 
-ghost use Rattle.std.specs.Prelude.{◌≡◌, [], ◌∷◌, ◌≤◌, length};
-ghost use Rattle.segment.specs.Limits.{sample_most, SamplesWithin};
-ghost use Rattle.dstree.specs.Measures.{work_needed};
+ghost use Rattle.std.specs.Prelude.{◌≡◌, [], ◌∷◌};
 ghost use Rattle.dstree.specs.Book.{matching};
-ghost use Rattle.tables.specs.Tables.{measures_of};
 ghost use Rattle.tables.specs.Lent.{tables_after_search, tables_before_search};
 ghost use Rattle.calls.specs.Outcome.{outcome};
 ghost use Rattle.calls.specs.Effects.{outcome_on};
-ghost use Rattle.search.specs.Searched.{without_work, Ready, Searched};
 ghost use Rattle.matching.specs.Answered.{answer_by};
 
-use search::searching::{Matched, search_all};
+use search::searching::search_all;
+use search::stored::Stored;
 use segment::{Sample, Word};
-use tables::{Refusal, Verdict};
+use tables::Refusal;
+use tables::given::words_for;
+use tables::lent::Lent;
 
-// Trace number, distance, leaves read and traces read, or a refusal.
-#[derive(Drop)]
-pub enum Found {
-    At(u64, u64, u64, u64),
-    Refused(Refusal),
-}
-
-// The search, for a query of plain samples: it is made words first.
-fn search_given(
-    control: &[u16],
-    samples: &[Word],
-    nodes: &[i64],
-    links: &[u16],
-    query: &[Sample],
-    work: &mut [u64],
-    trail: &mut [u16],
-) -> Matched
-    requires { Ready (without_work control.now samples.now nodes.now links.now) query.now (length trail.old)
-        × (work_needed (measures_of (without_work control.now samples.now nodes.now links.now)) ≤ length work.old)
-        × SamplesWithin sample_most query.now }
-    ensures { Searched (without_work control.now samples.now nodes.now links.now)
-        query.now work.old work.new trail.old trail.new result.trace result.distance
-        result.out result.traces }
-{
-    let mut words: [Word; 256] = [0; 256];
-    tables::given::words_of(query, &mut words);
-    let n = query.len();
-    search_all(control, samples, nodes, links, &words[..n], work, trail)
+// The nearest trace's number and its distance, leaves read and traces read.
+#[derive(Clone, Copy, Debug, PartialEq, Eq)]
+pub struct Found {
+    pub trace: u64,
+    pub distance: u64,
+    pub leaves: u64,
+    pub traces: u64,
 }
 
 // Finds the nearest trace. Every refusal is decided before anything is written. The trail begins with the leaves read, and search work is
@@ -62,24 +40,35 @@ pub fn nearest(
     labels: &[u64],
     trail: &mut [u16],
     query: &[Sample],
-) -> Found
+) -> Result<Found, Refusal>
     ensures { outcome (answer_by result trail.new)
         (tables_after_search control samples nodes links work labels)
         (trail.new ∷ [])
         ≡ outcome_on (matching query.now trail.old)
         (tables_before_search control samples nodes links work labels) }
 {
-    let verdict = judging::judge(control, samples, nodes, links, work, labels, query, trail);
-    match verdict {
-        Verdict::Refused(why) => Found::Refused(why),
-        Verdict::Fine => {
-            let seen = search_given(control, samples, nodes, links, query, work, trail);
-            Found::At(
-                seen.trace,
-                seen.distance,
-                seen.out as u64,
-                seen.traces as u64,
-            )
-        }
-    }
+    let lent = Lent {
+        control,
+        samples,
+        nodes,
+        links,
+        work,
+        labels,
+    };
+    judging::judge(lent, query, trail)?;
+    let mut words: [Word; 256] = [0; 256];
+    let words = words_for(query, &mut words);
+    let stored = Stored {
+        control,
+        samples,
+        nodes,
+        links,
+    };
+    let seen = search_all(stored, words, work, trail);
+    Ok(Found {
+        trace: seen.trace,
+        distance: seen.distance,
+        leaves: seen.out as u64,
+        traces: seen.traces as u64,
+    })
 }

@@ -11,6 +11,7 @@ use tables::records::small_at;
 
 // The first `many` ends of the parent are among the first `count` of the child. Both rise, so that one pass over the child's is enough:
 // each end of the parent is passed when it is met, in order, and any other end of the child is one to spare.
+// A chain is no plainer: the parent's index moves only where the ends agree.
 fn ends_in(child: &[i64], count: usize, parent: &[i64], many: usize) -> bool
     requires { (length child.now ≡ record_places) × EndsRise child.now count
         × (length parent.now ≡ record_places) × EndsRise parent.now many }

@@ -1,6 +1,6 @@
 // The rules on the records in use.
 
-ghost use Rattle.std.specs.Prelude.{◌≡◌, true, ◌+◌, ◌*◌, ◌≤◌, ◌<◌, length};
+ghost use Rattle.std.specs.Prelude.{◌≡◌, true, ◌+◌, ◌*◌, ◌≤◌, length};
 ghost use Rattle.dstree.specs.Measures.{most_samples, most_nodes};
 ghost use Rattle.tables.specs.Layout.{segments_place, record_places};
 ghost use Rattle.tables.specs.Tables.{record_of};
@@ -8,7 +8,8 @@ ghost use Rattle.tables.specs.View.{small_at, segments_in};
 ghost use Rattle.records_fit.specs.Fits.{head_fits, segments_hold, record_fits, ends_in, kept_at, Under, ChildrenUnder, records_fit};
 ghost use Rattle.records_fit.specs.Fits.{all_kept, EndsRise, AllFit, InUse, HeadFits};
 
-use tables::places::{FIRST, KIND, RIGHT};
+use tables::kinds::is_leaf;
+use tables::places::{FIRST, RIGHT};
 use tables::records::{node_small, record_at};
 
 fn node_fits(nodes: &[i64], j: usize, m: usize, n: usize) -> bool
@@ -23,12 +24,10 @@ pub fn records_fit(nodes: &[i64], m: usize, n: usize) -> bool
     requires { (m * record_places ≤ length nodes.now) × (m ≤ most_nodes) × (n ≤ most_samples) }
     ensures { result ≡ records_fit n m nodes.now }
 {
-    let mut j: usize = 0;
-    while j < m {
+    for j in 0..m {
         if !node_fits(nodes, j, m, n) {
             return false;
         }
-        j += 1;
     }
     true
 }
@@ -48,8 +47,7 @@ fn node_kept(nodes: &[i64], j: usize) -> bool
     requires { InUse j nodes.now }
     ensures { result ≡ kept_at nodes.now j }
 {
-    let kind = node_small(nodes, j, KIND);
-    if kind == 0 {
+    if is_leaf(nodes, j) {
         return true;
     }
     let left = node_small(nodes, j, FIRST);
@@ -65,12 +63,10 @@ pub fn ends_kept(nodes: &[i64], m: usize) -> bool
     requires { AllFit m nodes.now }
     ensures { result ≡ all_kept m nodes.now }
 {
-    let mut j: usize = 0;
-    while j < m {
+    for j in 0..m {
         if !node_kept(nodes, j) {
             return false;
         }
-        j += 1;
     }
     true
 }
@@ -113,8 +109,7 @@ pub fn children_fit(nodes: &[i64], j: usize, n: usize) -> bool
     requires { HeadFits j nodes.now }
     ensures { result ≡ true → ChildrenUnder n nodes.now j }
 {
-    let kind = node_small(nodes, j, KIND);
-    if kind == 0 {
+    if is_leaf(nodes, j) {
         return true;
     }
     twins_fit(

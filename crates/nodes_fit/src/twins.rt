@@ -69,14 +69,12 @@ fn segments_run(
 {
     let mut before: usize = 0;
     let mut p: usize = 0;
-    let mut i: usize = 0;
-    while i < count {
+    for i in 0..count {
         if !segments_fit(left, right, i, before) {
             return false;
         }
         before = end_at(left, i);
         p = met(parent, p, before);
-        i += 1;
     }
     if p != many {
         return false;

@@ -7,6 +7,9 @@ use mathlib.Core.List.{List, [], ◌∷◌, map, flatten}
 use native.Mathlib.Omega.{arith}
 use lib.ListN.{length, length-append, length-set, get_or, set}
 use lib.Seq.{get_or-set_same, get_or-set_other}
+use mir.Val.{bool_byte}
+use Rattle.std.specs.Bool.{MatchBool}
+use Rattle.std.specs.Prelude.{if◌then◌else◌}
 use lib.Dec.{T, ltb, eqb, ltb→lt, lt→ltb}
 use borrow.Author.Tests.{eqb-true, eqb-false}
 use Rattle.integer.specs.Words.{every, counting}
@@ -99,15 +102,25 @@ module _ (links : List ℕ) (k : ℕ) where
   unfolding counting flatten
   counted_start = record { few = omega arith; passed = tallied_none LinkFits; count = refl }
 
-  pub counted_more : {fit ends i link : ℕ} (r e : ℕ) → Counted fit ends i → i < k → link ≡ get_or links i 0
-      → (r ≤ 1) × (r ≡ 1 → LinkRises k i link) × (LinkRises k i link → r ≡ 1) → e + length (not_zero link) ≡ 1 → Counted (fit + r) (ends + e) (i + 1)
-  counted_more {fit} {ends} {i} {link} r e w h q p z =
-      let one = subst (λ (x : ℕ). e + length (not_zero x) ≡ 1) q z in record {
-        few = omega arith;
-        passed = tallied_more LinkFits w.passed p.0 (λ f. subst (LinkRises k i) q (p.1 f))
-            (λ f. p.2 (subst (LinkRises k i) (sym q) f));
-        count = omega (arith, w.count, one, ap length (firsts_more (link_at links) i) ∙ length-append (links_of links i) (link_at links i));
-      }
+  -- a link is 0, or is one
+  ended_or_link : (x : ℕ) → bool_byte (eqb x 0) + length (not_zero x) ≡ 1
+  ended_or_link x = by (eqb x 0)
+    where
+      by : (b : Bool) → bool_byte b + length (if b then [] else x ∷ []) ≡ 1
+      by true = refl
+      by false = refl
+
+  pub counted_more : {fit ends i : ℕ} (rises : Bool) → Counted fit ends i → i < k → MatchBool rises (LinkFits i) (LinkFits i → ⊥)
+      → Counted (fit + bool_byte rises) (ends + bool_byte (eqb (get_or links i 0) 0)) (i + 1)
+  counted_more {fit} {ends} {i} rises w h p = record {
+    few = omega arith;
+    passed = risen rises p;
+    count = omega (arith, w.count, ended_or_link (get_or links i 0), ap length (firsts_more (link_at links) i) ∙ length-append (links_of links i) (link_at links i));
+  }
+    where
+      risen : (b : Bool) → MatchBool b (LinkFits i) (LinkFits i → ⊥) → Tallied LinkFits (fit + bool_byte b) (i + 1)
+      risen true f = tallied_more LinkFits w.passed (omega arith) (λ _. f) (λ _. refl)
+      risen false f = tallied_more LinkFits w.passed (omega arith) (λ e. absurd (omega arith)) (λ g. absurd (f g))
 
   module _ {fit ends i : ℕ} (w : Counted fit ends i) (e : i ≡ k) (m : ℕ) where
     pub counted_short : (fit ≡ k → ⊥) → LinksRise links k m → ⊥

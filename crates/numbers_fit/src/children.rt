@@ -1,21 +1,20 @@
 // Every node but 0 is a child once.
 
-ghost use Rattle.std.specs.Prelude.{◌≡◌, length};
+ghost use Rattle.std.specs.Prelude.{◌≡◌};
 ghost use Rattle.records_fit.specs.Fits.{AllFit, HeadFits};
-ghost use Rattle.tables.specs.Layout.{node_places};
 ghost use Rattle.numbers_fit.specs.Marks.{MarkedOrTwice};
 ghost use Rattle.numbers_fit.specs.Tests.{children_at, children_of_first, children_once};
 
-use tables::places::{FIRST, KIND, RIGHT};
+use tables::kinds::is_leaf;
+use tables::places::{FIRST, RIGHT};
 use tables::records::node_small;
 
 // Marks the children of node j, if it is an inner node.
 pub fn mark_children(nodes: &[i64], j: usize, marks: &mut [u8; 8192]) -> bool
-    requires { HeadFits j nodes.now × (length marks.old ≡ node_places) }
+    requires { HeadFits j nodes.now }
     ensures { MarkedOrTwice marks.old marks.new (children_at nodes.now j) result }
 {
-    let kind = node_small(nodes, j, KIND);
-    if kind == 0 {
+    if is_leaf(nodes, j) {
         return true;
     }
     let left = node_small(nodes, j, FIRST);
@@ -28,15 +27,13 @@ pub fn mark_children(nodes: &[i64], j: usize, marks: &mut [u8; 8192]) -> bool
 
 // Marks the children of every node, and stops at one that was met before.
 fn mark_all(nodes: &[i64], m: usize, marks: &mut [u8; 8192]) -> bool
-    requires { AllFit m nodes.now × (length marks.old ≡ node_places) }
+    requires { AllFit m nodes.now }
     ensures { MarkedOrTwice marks.old marks.new (children_of_first nodes.now m) result }
 {
-    let mut j: usize = 0;
-    while j < m {
+    for j in 0..m {
         if !mark_children(nodes, j, marks) {
             return false;
         }
-        j += 1;
     }
     true
 }

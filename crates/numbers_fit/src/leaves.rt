@@ -1,82 +1,66 @@
 // Every trace number is in one leaf, and the numbers of a leaf rise. No leaf's list is walked: if every link rises, and every trace is
 // named once, by a link or as a leaf's first, then going back from a trace by what names it ends at one leaf, whose list it is in.
 
-ghost use Rattle.std.specs.Prelude.{◌≡◌, true, false, ℕ, ◌+◌, ◌≤◌, ◌<◌, length, get_or};
+ghost use Rattle.std.specs.Prelude.{MatchBool, ◌≡◌, true, false, ℕ, ◌+◌, ◌≤◌, ◌<◌, length, get_or};
 ghost use Rattle.dstree.specs.Measures.{most_traces, most_nodes};
 ghost use Rattle.records_fit.specs.Fits.{AllFit, HeadFits};
 ghost use Rattle.numbers_fit.specs.Marks.{Named, LinkRises, LinksRise, LinksMarked, LinksName};
-ghost use Rattle.numbers_fit.specs.Tests.{children_once, first_at, firsts_of, not_zero, leaves_hold};
+ghost use Rattle.numbers_fit.specs.Tests.{children_once, first_at, firsts_of, leaves_hold};
 
+use tables::kinds::is_leaf;
 use tables::numbers::wide;
-use tables::places::{FIRST, KIND};
+use tables::places::FIRST;
 use tables::records::node_small;
 
 // Marks the first trace number of node j, if it is a leaf. It has to be the number of one of k traces.
 pub fn mark_first(nodes: &[i64], j: usize, k: usize, marks: &mut [u8; 4096]) -> bool
-    requires { HeadFits j nodes.now × (k ≤ most_traces) × (length marks.old ≡ most_traces) }
+    requires { HeadFits j nodes.now × (k ≤ most_traces) }
     ensures { Named k marks.old marks.new (first_at nodes.now j) result }
 {
-    let kind = node_small(nodes, j, KIND);
-    if kind != 0 {
+    if !is_leaf(nodes, j) {
         return true;
     }
     let first = node_small(nodes, j, FIRST);
     if k <= first {
         return false;
     }
-    crate::marks::mark_trace(marks, first)
+    crate::marks::mark(marks, first)
 }
 
 // Marks the first trace number of every leaf.
 fn mark_firsts(nodes: &[i64], m: usize, k: usize, marks: &mut [u8; 4096]) -> bool
-    requires { AllFit m nodes.now × (k ≤ most_traces) × (length marks.old ≡ most_traces) }
+    requires { AllFit m nodes.now × (k ≤ most_traces) }
     ensures { Named k marks.old marks.new (firsts_of nodes.now m) result }
 {
-    let mut j: usize = 0;
-    while j < m {
+    for j in 0..m {
         if !mark_first(nodes, j, k, marks) {
             return false;
         }
-        j += 1;
     }
     true
 }
 
 // ---- links. They are counted and marked without a branch by their values, which no processor could guess
 
-// 1 if the link of trace i, of k, is 0 or the number of a later trace, else 0.
-fn rises(link: u16, i: u16, k: u16) -> u16
-    ensures { (result ≤ 1) × (result ≡ 1 → LinkRises k i link) × (LinkRises k i link → result ≡ 1) }
+// The link of trace i, of k, is 0 or the number of a later trace.
+fn rises(link: u16, i: u16, k: u16) -> bool
+    ensures { MatchBool result (LinkRises k i link) (LinkRises k i link → ⊥) }
 {
-    if link == 0 {
-        return 1;
-    }
-    if link <= i {
-        return 0;
-    }
-    if link < k { 1 } else { 0 }
-}
-
-// 1 if a link is 0, which ends a list, else 0.
-fn ended(link: u16) -> u16
-    ensures { result + length (not_zero link) ≡ 1 }
-{
-    if link == 0 { 1 } else { 0 }
+    link == 0 || (i < link && link < k)
 }
 
 // Each of k links is 0 behind the last of a leaf, else the number of a later trace, and as many end a list as there are leaves, of m nodes.
+// A chain of `all`, `filter` and `count` was tried: it took 8 times as long as this loop.
 fn links_rise(links: &[u16], k: usize, m: usize) -> bool
     requires { (k ≤ length links.now) × (k ≤ most_traces) × (m ≤ most_nodes) }
     ensures { (result ≡ true → LinksRise links.now k m) × (result ≡ false → LinksRise links.now k m → ⊥) }
 {
     let mut fit: u16 = 0;
     let mut ends: u16 = 0;
-    let mut i: usize = 0;
-    while i < k {
+    for i in 0..k {
         let link = links[i];
-        fit += rises(link, i as u16, k as u16);
-        ends += ended(link);
-        i += 1;
+        fit += u16::from(rises(link, i as u16, k as u16));
+        ends += u16::from(link == 0);
     }
     if wide(fit) != k {
         return false;
@@ -86,20 +70,18 @@ fn links_rise(links: &[u16], k: usize, m: usize) -> bool
 
 // Marks k links, and 0 if one of them ends a list.
 fn mark_links(links: &[u16], k: usize, marks: &mut [u8; 4096])
-    requires { (k ≤ length links.now) × ((i : ℕ) → i < k → get_or links.now i 0 < most_traces) × (length marks.old ≡ most_traces) }
+    requires { (k ≤ length links.now) × ((i : ℕ) → i < k → get_or links.now i 0 < most_traces) }
     ensures { LinksMarked links.now k marks.old marks.new }
 {
-    let mut i: usize = 0;
-    while i < k {
+    for i in 0..k {
         marks[wide(links[i])] = 1;
-        i += 1;
     }
 }
 
 // The links of k traces rise, and with what is marked before they name every trace. Trace 0 is behind no other, so that it has to be marked
 // before.
 pub fn links_name(links: &[u16], k: usize, m: usize, marks: &mut [u8; 4096]) -> bool
-    requires { (k ≤ length links.now) × (k ≤ most_traces) × (length marks.old ≡ most_traces) × (m ≤ most_nodes) }
+    requires { (k ≤ length links.now) × (k ≤ most_traces) × (m ≤ most_nodes) }
     ensures { (result ≡ true → LinksName links.now k m marks.old)
         × (result ≡ false → LinksName links.now k m marks.old → ⊥) }
 {

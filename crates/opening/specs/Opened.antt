@@ -1,10 +1,10 @@
 -- What `open` answers, in document 01's terms.
+use Rattle.std.specs.Prelude.{Result, Ok, Err, ⊤}
 use Rattle.dstree.specs.Book.{Answer, answering, refusing, done}
 use Rattle.tables.specs.Answers.{word_of}
-use Rattle.opening.specs.declared.Opened.{Opened}
-use Rattle.opening.specs.declared.Opened.TheVariants as o
+use Rattle.tables.specs.declared.Refusal.{Refusal}
 
 -- "Opening and sheet reading answer only that they succeeded"
-unfoldable pub answer_by : Opened → Answer
-answer_by o.Done = answering done
-answer_by (o.Refused why) = refusing (word_of why)
+unfoldable pub answer_by : Result ⊤ Refusal → Answer
+answer_by (Ok _) = answering done
+answer_by (Err why) = refusing (word_of why)

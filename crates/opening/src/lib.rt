@@ -15,15 +15,10 @@ ghost use Rattle.opening.specs.Opened.{answer_by};
 
 use segment::Word;
 use tables::control::{judge_opening, records_needed, samples_needed};
-use tables::loops::{zero_links, zero_nodes, zero_samples, zero_work};
+use tables::lent::Lent;
+use tables::loops::fill_first;
 use tables::places::{CAPACITY, LEAF_SIZE, N, NODE_COUNT, RECORD_PLACES, TRACE_COUNT};
-use tables::{Refusal, Verdict};
-
-#[derive(Drop)]
-pub enum Opened {
-    Done,
-    Refused(Refusal),
-}
+use tables::{Measures, Refusal};
 
 // The control record of an empty library: its measures, and no trace and no node. Places behind its fields stay.
 fn write_control(control: &mut [u16], n: u16, capacity: u16, leaf_size: u16)
@@ -58,11 +53,11 @@ pub fn put_empty(
         (measures n capacity leaf_size) }
 {
     let records = records_needed(capacity);
-    zero_samples(samples, samples_needed(n, capacity));
-    zero_nodes(nodes, records * RECORD_PLACES);
-    zero_links(links, capacity as usize);
-    zero_work(work, records);
-    zero_work(labels, capacity as usize);
+    fill_first(samples, samples_needed(n, capacity), 0);
+    fill_first(nodes, records * RECORD_PLACES, 0);
+    fill_first(links, capacity as usize, 0);
+    fill_first(work, records, 0);
+    fill_first(labels, capacity as usize, 0);
     write_control(control, n as u16, capacity as u16, leaf_size as u16);
 }
 
@@ -81,31 +76,29 @@ pub fn open(
     n: u64,
     capacity: u64,
     leaf_size: u64,
-) -> Opened
+) -> Result<(), Refusal>
     ensures { outcome (answer_by result)
         (tables_after control samples nodes links work labels)
         []
         ≡ outcome_on (opening (measures n capacity leaf_size))
         (tables_before_all control samples nodes links work labels) }
 {
-    let verdict = judge_opening(
-        control.len(),
-        samples.len(),
-        nodes.len(),
-        links.len(),
-        work.len(),
-        labels.len(),
+    let lent = Lent {
+        control,
+        samples,
+        nodes,
+        links,
+        work,
+        labels,
+    };
+    let measures = Measures {
         n,
         capacity,
         leaf_size,
+    };
+    judge_opening(lent.lengths(), measures)?;
+    put_empty(
+        control, samples, nodes, links, work, labels, n, capacity, leaf_size,
     );
-    match verdict {
-        Verdict::Refused(why) => Opened::Refused(why),
-        Verdict::Fine => {
-            put_empty(
-                control, samples, nodes, links, work, labels, n, capacity, leaf_size,
-            );
-            Opened::Done
-        }
-    }
+    Ok(())
 }

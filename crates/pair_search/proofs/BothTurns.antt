@@ -15,11 +15,13 @@ use Rattle.dstree.proofs.PairTurns.{AllAbove, PairState, state_start, state_fact
 use Rattle.dstree.proofs.Reading.{InOrder}
 use Rattle.tables.specs.Tables.{Tables, node_count}
 use Rattle.tables.specs.View.{tree_in}
-use Rattle.pair_search.specs.Sides.{leaf_ahead, coming}
+use Rattle.std.specs.Prelude.{Some}
+use Rattle.pair_search.specs.Sides.{has_ahead, next_of, leaf_ahead, coming}
+use Rattle.pair_search.specs.declared.turns.Whose.TheVariants.{Factory, Bench}
 use Rattle.pair_search.specs.Limits.{past}
 use Rattle.pair_search.specs.Turns.{turn_of}
 use Rattle.pair_search.specs.Advancing.{Advanced}
-use Rattle.pair_search.specs.Stepping.{Slices, slices, Reach, NoTurn, FactoryTurn, BenchTurn}
+use Rattle.pair_search.specs.Stepping.{Slices, Reach, NoTurn, FactoryTurn, BenchTurn}
 use Rattle.pair_search.specs.BothSearched.{indexed_in}
 use Rattle.pair_search.specs.Visiting.{Started, MayVisit, BothVisited}
 use Rattle.pair_search.specs.declared.sides.Side.{Side}
@@ -35,7 +37,7 @@ or_swap false false = refl
 
 -- as long as before
 pub record SameSize (x x' : Slices) : Type 0 where
-  pub work : length x'.work ≡ length x.work
+  pub work : length x'.heap.keys.now ≡ length x.heap.keys.now
   pub trail : length x'.trail ≡ length x.trail
   pub list : length x'.list ≡ length x.list
 
@@ -52,26 +54,27 @@ module _ (tf tb : Tables) (query : Trace) where
     pub bench_rest : List LeafBound
     pub factory : SideState tf query x₀ x f s.in_factory factory_rest
     pub bench : SideState tb query y₀ y b s.in_bench bench_rest
-    pub pair : PairState (indexed_in tf) (indexed_in tb) query s factory_rest bench_rest f.ahead b.ahead answer
+    pub pair : PairState (indexed_in tf) (indexed_in tb) query s factory_rest bench_rest (has_ahead f) (has_ahead b) answer
 
   -- how many leaves are to come
   abbrev pub to_read : Slices → Slices → Side → Side → ℕ
-  to_read x y f b = length (coming (shape_of tf) query f x.work) + length (coming (shape_of tb) query b y.work)
+  to_read x y f b = length (coming (shape_of tf) query f x.heap) + length (coming (shape_of tb) query b y.heap)
 
-  module _ (x₀ y₀ : Slices) (may_f : MayVisit tf query x₀) (may_b : MayVisit tb query y₀) where
+  module _ (x₀ y₀ : Slices) (may_f : MayVisit tf query x₀.heap.keys.now x₀.trail x₀.list)
+      (may_b : MayVisit tb query y₀.heap.keys.now y₀.trail y₀.list) where
     -- nothing is read yet
-    pub both_start : {x y : Slices} {f b : Side} → length x.work ≡ node_count tf → length y.work ≡ node_count tb
+    pub both_start : {x y : Slices} {f b : Side} → length x.heap.keys.now ≡ node_count tf → length y.heap.keys.now ≡ node_count tb
         → (x.trail ≡ x₀.trail) × (x.list ≡ x₀.list) → (y.trail ≡ y₀.trail) × (y.list ≡ y₀.list)
-        → Started (shape_of tf) query f x.work → Started (shape_of tb) query b y.work → BothState x₀ x y₀ y f b
+        → Started (shape_of tf) query f x.heap → Started (shape_of tb) query b y.heap → BothState x₀ x y₀ y f b
     both_start {x} {y} {f} {b} long bench_long same bench_same sf sb = record {
       s = nothing_yet;
       factory_rest = reading_order (tree_in tf) query;
       bench_rest = reading_order (tree_in tb) query;
       factory = side_start tf query x₀ may_f x f long same.0 same.1 sf;
       bench = side_start tb query y₀ may_b y b bench_long bench_same.0 bench_same.1 sb;
-      pair = state_start (indexed_in tf) (indexed_in tb) query f.ahead b.ahead
-          (λ e. subst (AllAbove nothing_yet) (sym (no_order tf query x₀ may_f f x.work sf e)) all_none)
-          (λ e. subst (AllAbove nothing_yet) (sym (no_order tb query y₀ may_b b y.work sb e)) all_none);
+      pair = state_start (indexed_in tf) (indexed_in tb) query (has_ahead f) (has_ahead b)
+          (λ e. subst (AllAbove nothing_yet) (sym (no_order tf query x₀ may_f f x.heap sf e)) all_none)
+          (λ e. subst (AllAbove nothing_yet) (sym (no_order tb query y₀ may_b b y.heap sb e)) all_none);
     }
 
     module _ {x y : Slices} {f b : Side} (state : BothState x₀ x y₀ y f b) where
@@ -86,30 +89,30 @@ module _ (tf tb : Tables) (query : Trace) where
       -- ---- the end
 
       -- where no leaf ahead is within the limit, none to come is
-      above_f : (r : Reach x y f b) → (f.ahead ≡ true → past r.within f.bound ≡ true) → AllAbove state.s state.factory_rest
-      above_f r h = by f.ahead refl
+      above_f : (r : Reach x y f b) → (has_ahead f ≡ true → past r.within (next_of f).bound ≡ true) → AllAbove state.s state.factory_rest
+      above_f r h = by (has_ahead f) refl
         where
-          by : (t : Bool) → f.ahead ≡ t → AllAbove state.s state.factory_rest
+          by : (t : Bool) → has_ahead f ≡ t → AllAbove state.s state.factory_rest
           by false e = state.pair.none_f e
           by true e =
               let first = first_is tf query x₀ may_f state.factory e in
               subst (AllAbove state.s) (sym first)
-              (first_above state.s (subst InOrder first state.pair.order_f) (sym (within_above r f.bound) ∙ h e))
+              (first_above state.s (subst InOrder first state.pair.order_f) (sym (within_above r (next_of f).bound) ∙ h e))
 
-      above_b : (r : Reach x y f b) → (b.ahead ≡ true → past r.within b.bound ≡ true) → AllAbove state.s state.bench_rest
-      above_b r h = by b.ahead refl
+      above_b : (r : Reach x y f b) → (has_ahead b ≡ true → past r.within (next_of b).bound ≡ true) → AllAbove state.s state.bench_rest
+      above_b r h = by (has_ahead b) refl
         where
-          by : (t : Bool) → b.ahead ≡ t → AllAbove state.s state.bench_rest
+          by : (t : Bool) → has_ahead b ≡ t → AllAbove state.s state.bench_rest
           by false e = state.pair.none_b e
           by true e =
               let first = first_is tb query y₀ may_b state.bench e in
               subst (AllAbove state.s) (sym first)
-              (first_above state.s (subst InOrder first state.pair.order_b) (sym (within_above r b.bound) ∙ h e))
+              (first_above state.s (subst InOrder first state.pair.order_b) (sym (within_above r (next_of b).bound) ∙ h e))
 
       -- what was found is the answer, whatever search work held before
-      pub both_end : (work bench_work : List ℕ) {x' y' : Slices} → NoTurn tf tb query x x' y y' f b
-          → BothVisited tf tb query (slices work x₀.trail x₀.list) x' (slices bench_work y₀.trail y₀.list) y' f b
-      both_end work bench_work h = rw (h.factory_stays, h.bench_stays) (
+      pub both_end : {x' y' : Slices} → NoTurn tf tb query x x' y y' f b
+          → BothVisited tf tb query x₀.trail x'.trail x₀.list x'.list y₀.trail y'.trail y₀.list y'.list f b
+      both_end h = rw (h.factory_stays, h.bench_stays) (
           let past_limit = no_turn f b h.reach.within h.turn_is in
           record {
             found =
@@ -121,9 +124,9 @@ module _ (tf tb : Tables) (query : Trace) where
 
       -- ---- the factory's turn
 
-      module _ {x' : Slices} {f' : Side} (size : SameSize x x') (r : Reach x y f b) (e : turn_of f b r.within ≡ 1)
-          (h : Advanced tf query x.work x'.work x.trail x'.trail x.list x'.list r.other f f') where
-        f_turn : (f.ahead ≡ true) × (past r.within f.bound ≡ false) × (b.ahead ≡ true → f.bound ≤ b.bound)
+      module _ {x' : Slices} {f' : Side} (size : SameSize x x') (r : Reach x y f b) (e : turn_of f b r.within ≡ Some Factory)
+          (h : Advanced tf query x.heap x'.heap x.trail x'.trail x.list x'.list r.other f f') where
+        f_turn : (has_ahead f ≡ true) × (past r.within (next_of f).bound ≡ false) × (has_ahead b ≡ true → (next_of f).bound ≤ (next_of b).bound)
         f_turn = factorys_turn f b r.within e
 
         f_first : state.factory_rest ≡ leaf_ahead f ∷ leaves_behind tf query x f
@@ -133,11 +136,11 @@ module _ (tf tb : Tables) (query : Trace) where
         f_read = side_read tf query x₀ may_f state.factory f_turn.0 (size.work ∙ state.factory.work_long) size.trail size.list h
 
         -- the bench's next leaf is no lower
-        not_lower : b.ahead ≡ true → NoLower f.bound state.bench_rest
-        not_lower q = subst (NoLower f.bound) (sym (first_is tb query y₀ may_b state.bench q)) (f_turn.2 q)
+        not_lower : has_ahead b ≡ true → NoLower (next_of f).bound state.bench_rest
+        not_lower q = subst (NoLower (next_of f).bound) (sym (first_is tb query y₀ may_b state.bench q)) (f_turn.2 q)
 
         -- where none is ahead then, none to come is within the nearest of both
-        f_none : f'.ahead ≡ false
+        f_none : has_ahead f' ≡ false
             → AllAbove (pair_search (with_ahead tf query state.s.in_factory f) state.s.in_bench) (leaves_behind tf query x f)
         unfolding is_above_both
         f_none q =
@@ -156,10 +159,10 @@ module _ (tf tb : Tables) (query : Trace) where
           bench = state.bench;
           pair = state_factory (indexed_in tf) (indexed_in tb) query
               (subst (λ (t : Bool). PairState (indexed_in tf) (indexed_in tb) query state.s (leaf_ahead f ∷ leaves_behind tf query x f)
-              state.bench_rest t b.ahead answer) f_turn.0
-              (subst (λ (l : List LeafBound). PairState (indexed_in tf) (indexed_in tb) query state.s l state.bench_rest f.ahead
-              b.ahead answer) f_first state.pair))
-              (sym (within_above r f.bound) ∙ f_turn.1) not_lower f'.ahead f_none;
+              state.bench_rest t (has_ahead b) answer) f_turn.0
+              (subst (λ (l : List LeafBound). PairState (indexed_in tf) (indexed_in tb) query state.s l state.bench_rest (has_ahead f)
+              (has_ahead b) answer) f_first state.pair))
+              (sym (within_above r (next_of f).bound) ∙ f_turn.1) not_lower (has_ahead f') f_none;
         }
 
         pub factory_less : to_read x' y f' b < to_read x y f b
@@ -167,9 +170,9 @@ module _ (tf tb : Tables) (query : Trace) where
 
       -- ---- the bench's
 
-      module _ {y' : Slices} {b' : Side} (size : SameSize y y') (r : Reach x y f b) (e : turn_of f b r.within ≡ 2)
-          (h : Advanced tb query y.work y'.work y.trail y'.trail y.list y'.list r.own b b') where
-        b_turn : (b.ahead ≡ true) × (past r.within b.bound ≡ false) × (f.ahead ≡ true → b.bound < f.bound)
+      module _ {y' : Slices} {b' : Side} (size : SameSize y y') (r : Reach x y f b) (e : turn_of f b r.within ≡ Some Bench)
+          (h : Advanced tb query y.heap y'.heap y.trail y'.trail y.list y'.list r.own b b') where
+        b_turn : (has_ahead b ≡ true) × (past r.within (next_of b).bound ≡ false) × (has_ahead f ≡ true → (next_of b).bound < (next_of f).bound)
         b_turn = benchs_turn f b r.within e
 
         b_first : state.bench_rest ≡ leaf_ahead b ∷ leaves_behind tb query y b
@@ -179,10 +182,10 @@ module _ (tf tb : Tables) (query : Trace) where
         b_read = side_read tb query y₀ may_b state.bench b_turn.0 (size.work ∙ state.bench.work_long) size.trail size.list h
 
         -- the factory's next leaf is higher
-        is_lower : f.ahead ≡ true → Lower b.bound state.factory_rest
-        is_lower q = subst (Lower b.bound) (sym (first_is tf query x₀ may_f state.factory q)) (b_turn.2 q)
+        is_lower : has_ahead f ≡ true → Lower (next_of b).bound state.factory_rest
+        is_lower q = subst (Lower (next_of b).bound) (sym (first_is tf query x₀ may_f state.factory q)) (b_turn.2 q)
 
-        b_none : b'.ahead ≡ false
+        b_none : has_ahead b' ≡ false
             → AllAbove (pair_search state.s.in_factory (with_ahead tb query state.s.in_bench b)) (leaves_behind tb query y b)
         unfolding is_above_both
         b_none q =
@@ -202,10 +205,10 @@ module _ (tf tb : Tables) (query : Trace) where
           bench = b_read;
           pair = state_bench (indexed_in tf) (indexed_in tb) query
               (subst (λ (t : Bool). PairState (indexed_in tf) (indexed_in tb) query state.s state.factory_rest
-              (leaf_ahead b ∷ leaves_behind tb query y b) f.ahead t answer) b_turn.0
-              (subst (λ (l : List LeafBound). PairState (indexed_in tf) (indexed_in tb) query state.s state.factory_rest l f.ahead
-              b.ahead answer) b_first state.pair))
-              (sym (within_above r b.bound) ∙ b_turn.1) is_lower b'.ahead b_none;
+              (leaf_ahead b ∷ leaves_behind tb query y b) (has_ahead f) t answer) b_turn.0
+              (subst (λ (l : List LeafBound). PairState (indexed_in tf) (indexed_in tb) query state.s state.factory_rest l (has_ahead f)
+              (has_ahead b) answer) b_first state.pair))
+              (sym (within_above r (next_of b).bound) ∙ b_turn.1) is_lower (has_ahead b') b_none;
         }
 
         pub bench_less : to_read x y' f b' < to_read x y f b

@@ -1,7 +1,7 @@
 -- What reading a leaf leaves of what one library keeps.
 use Prim.Native.Nat.{ℕ, ◌+◌, ◌≤◌, ◌<◌}
 use mathlib.Core.Path.{◌≡◌, refl, sym, ◌∙◌, ap, subst}
-use mathlib.Core.Bool.{false}
+use Rattle.std.specs.Prelude.{None}
 use mathlib.Core.List.{List, [], ◌∷◌, ◌++◌, map, foldl}
 use native.Mathlib.Numerals.{add-one}
 use native.Mathlib.Omega.{arith}
@@ -24,15 +24,13 @@ use Rattle.reading.proofs.Meaning.{LeafInTables, answer_is}
 use Rattle.search.specs.Searched.{listing_by}
 use Rattle.search.proofs.Facts.{leaves_few}
 use Rattle.pair_search.specs.Reading.{found_in, MayRead, ReadAhead}
+use Rattle.pair_search.specs.Sides.{next_of}
 use Rattle.pair_search.specs.declared.sides.Side.{Side}
 
 -- a side with one leaf more read
 abbrev pub read_side : Side → ℕ → ℕ → Side
 read_side side listed traces = record {
-  ahead = false;
-  bound = 0;
-  number = 0;
-  waiting = side.waiting;
+  ahead = None;
   listed = listed;
   out = side.out + 1;
   traces = side.traces + traces;
@@ -45,14 +43,14 @@ module _ (t : Tables) (query : Trace) (trail list : List ℕ) (side : Side) (may
   pub trail_place : side.out < length trail
   trail_place = omega (arith, may.place, may.ready.trail_long)
 
-  pub one_read : (at : LeafInTables t side.number) (n count head traces' many' : ℕ) (list' : List ℕ) → n ≡ (measures_of t).n
-      → count ≡ trace_count t → head ≡ small_at (record_of t.nodes side.number) first_place
+  pub one_read : (at : LeafInTables t (next_of side).number) (n count head traces' many' : ℕ) (list' : List ℕ) → n ≡ (measures_of t).n
+      → count ≡ trace_count t → head ≡ small_at (record_of t.nodes (next_of side).number) first_place
       → ListBegins 1 many'
       (foldl (list_with 1) (nears_in side.listed list) (map (near_of t.samples n query) (numbers_of t.links count head))) list list'
       → length list' ≡ length list → traces' ≡ length (numbers_of t.links count head) → traces' ≤ count
-      → ReadAhead t query trail (set trail side.out side.number) list list' side (read_side side many' traces')
+      → ReadAhead t query trail (set trail side.out (next_of side).number) list list' side (read_side side many' traces')
   one_read at n count head traces' many' list' n_is count_is head_is lists size counted most =
-      let j : ℕ = side.number in
+      let j : ℕ = (next_of side).number in
       let out : ℕ = side.out in
       let so_far = found_in side trail list in
       let met = map (near_of t.samples n query) (numbers_of t.links count head) in
@@ -62,7 +60,6 @@ module _ (t : Tables) (query : Trace) (trail list : List ℕ) (side : Side) (may
             ∙ sym (answer_is t j at query 1 so_far (nears_in many' list') traces' (rw (n_is, count_is, head_is) at lists.nears_are)
             (rw (count_is, head_is) at counted));
         none_ahead = refl;
-        waiting_stays = refl;
         one_more = refl;
         trail_rest = drop-set-lt (out + 1) trail out j (omega arith);
         few = omega (arith, may.few, most, count_is, at.stored.few);

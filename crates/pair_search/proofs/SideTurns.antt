@@ -25,15 +25,15 @@ use Rattle.best_first.proofs.Alike.{order_alike}
 use Rattle.leaf_order.specs.Waits.{Waits, remaining}
 use Rattle.leaf_order.specs.Handed.{Past}
 use Rattle.search.proofs.Facts.{shape_alike}
-use Rattle.pair_search.specs.Sides.{leaf_ahead, coming, Asked}
-use Rattle.pair_search.specs.Limits.{past}
+use Rattle.heap.specs.declared.Heap.{Heap}
+use Rattle.pair_search.specs.Sides.{has_ahead, next_of, leaf_ahead, coming, Asked}
+use Rattle.pair_search.specs.Limits.{Limit, past}
 use Rattle.pair_search.specs.Reading.{found_in, MayRead}
 use Rattle.pair_search.specs.Advancing.{Advanced}
 use Rattle.pair_search.specs.Stepping.{Slices, MayStep, LimitIs}
 use Rattle.pair_search.specs.BothSearched.{SideReady}
 use Rattle.pair_search.specs.Visiting.{Started, MayVisit, search_in, SideVisited}
 use Rattle.pair_search.specs.declared.sides.Side.{Side}
-use Rattle.pair_search.specs.declared.limits.Limit.{Limit}
 use Rattle.pair_search.proofs.Taken.{ready_with}
 
 -- ---- the state of one library
@@ -43,19 +43,19 @@ shape_of t = shape_in t.nodes (node_count t)
 
 -- the leaves that wait, behind the one ahead
 abbrev pub leaves_behind : Tables → Trace → Slices → Side → List LeafBound
-leaves_behind t query x side = remaining (shape_of t) query side.waiting x.work
+leaves_behind t query x side = remaining (shape_of t) query x.heap.len x.heap.keys.now
 
 -- what was found, once the leaf ahead is read
 abbrev pub with_ahead : Tables → Trace → Search → Side → Search
-with_ahead t query s side = read_leaf (traces_in t) (tree_in t) query s side.number
+with_ahead t query s side = read_leaf (traces_in t) (tree_in t) query s (next_of side).number
 
 -- with what it may write at first and now, what was found, and the leaves still to come
 pub record SideState (t : Tables) (query : Trace) (x₀ x : Slices) (side : Side) (s : Search) (rest : List LeafBound) : Type 0 where
-  pub waits : Waits (shape_of t) query side.waiting x.work
-  pub work_long : length x.work ≡ node_count t
-  pub comes : coming (shape_of t) query side x.work ≡ rest
-  pub inside : side.ahead ≡ true → side.number < node_count t
-  pub is_leaf : side.ahead ≡ true → T (is_leaf_kind (node_at (shape_of t) side.number).kind)
+  pub waits : Waits (shape_of t) query x.heap.len x.heap.keys.now
+  pub work_long : length x.heap.keys.now ≡ node_count t
+  pub comes : coming (shape_of t) query side x.heap ≡ rest
+  pub inside : has_ahead side ≡ true → (next_of side).number < node_count t
+  pub is_leaf : has_ahead side ≡ true → T (is_leaf_kind (node_at (shape_of t) (next_of side).number).kind)
   pub found : found_in side x.trail x.list ≡ as_listing s
   pub trail_room : side.out + length rest ≡ length (leaves (tree_in t))
   pub few : side.traces ≤ side.out * 4096
@@ -65,10 +65,10 @@ pub record SideState (t : Tables) (query : Trace) (x₀ x : Slices) (side : Side
   pub list_size : length x.list ≡ length x₀.list
   pub list_rest : drop (2 * side.listed) x.list ≡ drop (2 * side.listed) x₀.list
 
-module _ (t : Tables) (query : Trace) (x₀ : Slices) (may : MayVisit t query x₀) where
+module _ (t : Tables) (query : Trace) (x₀ : Slices) (may : MayVisit t query x₀.heap.keys.now x₀.trail x₀.list) where
   -- nothing is read yet
-  pub side_start : (x : Slices) (side : Side) → length x.work ≡ node_count t → x.trail ≡ x₀.trail → x.list ≡ x₀.list
-      → Started (shape_of t) query side x.work
+  pub side_start : (x : Slices) (side : Side) → length x.heap.keys.now ≡ node_count t → x.trail ≡ x₀.trail → x.list ≡ x₀.list
+      → Started (shape_of t) query side x.heap
       → SideState t query x₀ x side (record { best = none; traces = 0; trail = [] }) (reading_order (tree_in t) query)
   side_start x side long same_trail same_list b = rw (same_trail, same_list) (record {
     waits = b.waits;
@@ -91,8 +91,8 @@ module _ (t : Tables) (query : Trace) (x₀ : Slices) (may : MayVisit t query x�
     list_rest = refl;
   })
 
-  pub no_order : (side : Side) (work : List ℕ) → Started (shape_of t) query side work → side.ahead ≡ false → reading_order (tree_in t) query ≡ []
-  no_order side work b e = sym (order_alike (shape_alike t) query) ∙ b.no_leaf e
+  pub no_order : (side : Side) (h : Heap) → Started (shape_of t) query side h → has_ahead side ≡ false → reading_order (tree_in t) query ≡ []
+  no_order side h b e = sym (order_alike (shape_alike t) query) ∙ b.no_leaf e
 
   module _ {x : Slices} {side : Side} {s : Search} {rest : List LeafBound} (state : SideState t query x₀ x side s rest) where
     -- the nearest so far
@@ -103,7 +103,7 @@ module _ (t : Tables) (query : Trace) (x₀ : Slices) (may : MayVisit t query x�
     pub limit_is : (limit : Limit) → LimitIs limit side x → (bound : ℕ) → past limit bound ≡ is_above bound s.best
     limit_is limit h bound = h bound ∙ ap (is_above bound) best_is
 
-    pub search_is : search_in side x ≡ s
+    pub search_is : search_in side x.trail x.list ≡ s
     search_is =
         let traces : side.traces ≡ s.traces = ap (λ (l : Listing). l.traces) state.found in
         let trail = ap (λ (l : Listing). l.trail) state.found in
@@ -119,7 +119,7 @@ module _ (t : Tables) (query : Trace) (x₀ : Slices) (may : MayVisit t query x�
       few_traces = state.few;
     }
 
-    module _ (ahead : side.ahead ≡ true) where
+    module _ (ahead : has_ahead side ≡ true) where
       -- the leaf ahead is the first to come
       pub first_is : rest ≡ leaf_ahead side ∷ leaves_behind t query x side
       first_is = sym state.comes ∙ ap (λ (b : Bool). if b then leaf_ahead side ∷ leaves_behind t query x side else leaves_behind t query x side) ahead
@@ -130,6 +130,7 @@ module _ (t : Tables) (query : Trace) (x₀ : Slices) (may : MayVisit t query x�
           let ready : SideReady t query (length x.trail) = subst (SideReady t query) (sym state.trail_size) may.ready in
           record {
             ready = ready_with t query (length x.trail) ready (omega (arith, state.inside ahead));
+            ahead = ahead;
             inside = state.inside ahead;
             is_leaf = state.is_leaf ahead;
             place = omega (arith, state.trail_room, ap length first_is);
@@ -147,19 +148,19 @@ module _ (t : Tables) (query : Trace) (x₀ : Slices) (may : MayVisit t query x�
     }
 
     -- after the leaf ahead was read, and the next asked for
-    module _ (ahead : side.ahead ≡ true) {x' : Slices} {other : Limit} {side' : Side} (long' : length x'.work ≡ node_count t)
+    module _ (ahead : has_ahead side ≡ true) {x' : Slices} {other : Limit} {side' : Side} (long' : length x'.heap.keys.now ≡ node_count t)
         (trail_long : length x'.trail ≡ length x.trail) (list_long : length x'.list ≡ length x.list)
-        (h : Advanced t query x.work x'.work x.trail x'.trail x.list x'.list other side side') where
-      asked : Asked (shape_of t) query h.limit.limited h.limit.distance h.between side' x.work x'.work
+        (h : Advanced t query x.heap x'.heap x.trail x'.trail x.list x'.list other side side') where
+      asked : Asked (shape_of t) query h.limit h.between side' x.heap x'.heap
       asked =
           subst
-          (λ (m : ℕ). Asked (shape_in t.nodes m) query h.limit.limited h.limit.distance h.between side' x.work x'.work)
+          (λ (m : ℕ). Asked (shape_in t.nodes m) query h.limit h.between side' x.heap x'.heap)
           state.work_long h.asked
 
       between_found : found_in h.between x'.trail x'.list ≡ as_listing (with_ahead t query s side)
       between_found =
-          h.read.found ∙ ap (λ (l : Listing). read_into 1 (traces_in t) (tree_in t) query l side.number) state.found
-          ∙ read_one (traces_in t) (tree_in t) query s side.number
+          h.read.found ∙ ap (λ (l : Listing). read_into 1 (traces_in t) (tree_in t) query l (next_of side).number) state.found
+          ∙ read_one (traces_in t) (tree_in t) query s (next_of side).number
 
       side_found : found_in side' x'.trail x'.list ≡ as_listing (with_ahead t query s side)
       side_found = rw (asked.listed_stays, asked.traces_stay, asked.out_stays) between_found
@@ -171,8 +172,8 @@ module _ (t : Tables) (query : Trace) (x₀ : Slices) (may : MayVisit t query x�
           ∙ ap (λ (l : Listing). is_above bound (kth 1 l.list) || past other bound) between_found
           ∙ ap (λ (o : Option Near). is_above bound o || past other bound) (kth_one (with_ahead t query s side).best)
 
-      comes' : coming (shape_of t) query side' x'.work ≡ leaves_behind t query x side
-      comes' = asked.same ∙ ap (λ (m : ℕ). remaining (shape_of t) query m x.work) h.read.waiting_stays
+      comes' : coming (shape_of t) query side' x'.heap ≡ leaves_behind t query x side
+      comes' = asked.same
 
       pub side_read : SideState t query x₀ x' side' (with_ahead t query s side) (leaves_behind t query x side)
       side_read = record {
@@ -194,8 +195,8 @@ module _ (t : Tables) (query : Trace) (x₀ : Slices) (may : MayVisit t query x�
       }
 
       -- where no leaf is ahead then, those to come are past the joint limit
-      pub none_ahead : side'.ahead ≡ false
+      pub none_ahead : has_ahead side' ≡ false
           → All (λ (a : LeafBound). (is_above a.bound (with_ahead t query s side).best || past other a.bound) ≡ true) (leaves_behind t query x side)
       none_ahead e =
           all_mono (λ a q. sym (limit_above a.bound) ∙ q)
-          (subst (All (Past h.limit.limited h.limit.distance)) comes' (asked.none_within e))
+          (subst (All (Past h.limit)) comes' (asked.none_within e))

@@ -6,17 +6,17 @@ use Rattle.dstree.specs.KNearest.{kth}
 use Rattle.tables.specs.Tables.{Tables}
 use Rattle.reading.specs.Listed.{nears_in}
 use Rattle.tables.specs.View.{shape_in}
-use Rattle.pair_search.specs.Limits.{past}
+use Rattle.heap.specs.declared.Heap.{Heap}
+use Rattle.pair_search.specs.Limits.{Limit, past}
 use Rattle.pair_search.specs.Reading.{ReadAhead}
 use Rattle.pair_search.specs.Sides.{Asked}
 use Rattle.pair_search.specs.declared.sides.Side.{Side}
-use Rattle.pair_search.specs.declared.limits.Limit.{Limit}
 
 -- the leaf ahead is read, and then the next is asked for within the nearest so far, its own library's or the other's
-pub record Advanced (t : Tables) (query : Trace) (work work' trail trail' list list' : List ℕ) (other : Limit) (side side' : Side)
+pub record Advanced (t : Tables) (query : Trace) (h h' : Heap) (trail trail' list list' : List ℕ) (other : Limit) (side side' : Side)
     : Type 0 where
   pub between : Side
   pub read : ReadAhead t query trail trail' list list' side between
   pub limit : Limit
   pub limit_is : (bound : ℕ) → past limit bound ≡ (is_above bound (kth 1 (nears_in between.listed list')) || past other bound)
-  pub asked : Asked (shape_in t.nodes (length work)) query limit.limited limit.distance between side' work work'
+  pub asked : Asked (shape_in t.nodes (length h.keys.now)) query limit between side' h h'

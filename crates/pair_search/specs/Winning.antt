@@ -6,4 +6,4 @@ use Rattle.pair_search.specs.declared.winning.Won.{Won}
 
 -- which library, trace and distance
 abbrev pub winner_by : Won → Winner
-winner_by r = won (which_by r.in_bench) (near r.trace r.distance)
+winner_by r = won (which_by r.library) (near r.trace r.distance)

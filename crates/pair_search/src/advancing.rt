@@ -1,58 +1,43 @@
 // A turn of one library: its leaf ahead is read, and the next is taken from its heap.
 ghost use Rattle.std.specs.Prelude.{length, ◌≡◌};
 ghost use Rattle.segment.specs.Stored.{samples_of};
-ghost use Rattle.prefixes.specs.Prefixes.{Prefixes};
 ghost use Rattle.tables.specs.Tables.{node_count};
 ghost use Rattle.tables.specs.View.{shape_in};
+ghost use Rattle.heap.specs.Lent.{SameRoom};
 ghost use Rattle.leaf_order.specs.Waits.{Waits};
-ghost use Rattle.search.specs.Searched.{without_work};
+ghost use Rattle.search.specs.Lent.{stored_tables};
 ghost use Rattle.pair_search.specs.Reading.{MayRead};
 ghost use Rattle.pair_search.specs.Advancing.{Advanced};
 
-use crate::limits::Limit;
 use crate::sides::Side;
-use segment::Word;
+use heap::Heap;
+use prefixes::Summed;
+use search::stored::Stored;
 
 // `other` is how far the other library's nearest lets the search go.
 //
 // Two wrong programs that the contract rules out: one that asks within its own nearest alone, and one that asks before it has read.
 pub fn advance(
-    control: &[u16],
-    samples: &[Word],
-    nodes: &[i64],
-    links: &[u16],
-    query: &[Word],
-    sums: &[i64; 257],
-    squares: &[u64; 257],
-    work: &mut [u64],
+    stored: Stored,
+    query: &Summed,
+    heap: &mut Heap,
     trail: &mut [u16],
     list: &mut [u64],
     side: Side,
-    other: Limit,
+    other: Option<u64>,
 ) -> Side
-    requires { MayRead (without_work control.now samples.now nodes.now links.now) (samples_of query.now) trail.old list.old
+    requires { MayRead (stored_tables stored) (samples_of query.now.trace.now) trail.old list.old
         side
-        × Prefixes (samples_of query.now) sums.now squares.now
-        × (length work.old ≡ node_count (without_work control.now samples.now nodes.now links.now))
-        × Waits (shape_in nodes.now (length work.old)) (samples_of query.now) side.waiting work.old }
-    ensures { Advanced (without_work control.now samples.now nodes.now links.now)
-        (samples_of query.now) work.old work.new trail.old trail.new list.old
+        × (length heap.old.keys.now ≡ node_count (stored_tables stored))
+        × Waits (shape_in stored.nodes.now (length heap.old.keys.now)) (samples_of query.now.trace.now) heap.old.len heap.old.keys.now }
+    ensures room { SameRoom heap.old heap.new }
+    ensures advanced { Advanced (stored_tables stored.entry)
+        (samples_of query.now.trace.now) heap.old heap.new trail.old trail.new list.old
         list.new other side result }
 {
-    let read = crate::leaf_ahead::read_ahead(
-        control, samples, nodes, links, query, trail, list, side,
-    );
+    let read = crate::leaf_ahead::read_ahead(stored, query.trace, trail, list, side);
     let listed = read.listed;
     let own = crate::limits::limit_in(list, listed);
     let limit = crate::limits::nearer_of(own, other);
-    crate::sides::ask(
-        nodes,
-        query,
-        sums,
-        squares,
-        work,
-        read,
-        limit.limited,
-        limit.distance,
-    )
+    crate::sides::ask(stored.nodes, query, heap, read, limit)
 }

@@ -3,12 +3,15 @@ ghost use Rattle.std.specs.Prelude.{◌≡◌, [], ◌≤◌, length, drop};
 ghost use Rattle.segment.specs.Stored.{samples_of};
 ghost use Rattle.dstree.specs.Measures.{work_needed, most_traces};
 ghost use Rattle.tables.specs.Tables.{measures_of, node_count, filled};
+ghost use Rattle.search.specs.Lent.{stored_tables};
 ghost use Rattle.search.specs.Searched.{without_work};
-ghost use Rattle.pair_search.specs.Stepping.{slices};
 ghost use Rattle.pair_search.specs.Visiting.{BothVisited};
 ghost use Rattle.pair_search.specs.BothSearched.{SideReady, BothSearched};
 
+use crate::turns::Whose;
 use crate::visiting::{Both, visit_both};
+use prefixes::Summed;
+use search::stored::Stored;
 use segment::Word;
 use tables::control::field;
 use tables::numbers::wide;
@@ -16,66 +19,44 @@ use tables::places::{CAPACITY, NODE_COUNT};
 
 // The nearest in each library, in lists of one. Of each work only a place for each node is lent.
 fn search_lists(
-    control: &[u16],
-    samples: &[Word],
-    nodes: &[i64],
-    links: &[u16],
+    stored: Stored,
     work: &mut [u64],
     trail: &mut [u16],
     list: &mut [u64],
-    bench_control: &[u16],
-    bench_samples: &[Word],
-    bench_nodes: &[i64],
-    bench_links: &[u16],
+    bench_stored: Stored,
     bench_work: &mut [u64],
     bench_trail: &mut [u16],
     bench_list: &mut [u64],
     query: &[Word],
 ) -> Both
-    requires side_ready { SideReady (without_work control.now samples.now nodes.now links.now) (samples_of query.now) (length trail.old)
-        × (work_needed (measures_of (without_work control.now samples.now nodes.now links.now)) ≤ length work.old)
+    requires side_ready { SideReady (stored_tables stored) (samples_of query.now) (length trail.old)
+        × (work_needed (measures_of (stored_tables stored)) ≤ length work.old)
         × (2 ≤ length list.old) }
-    requires bench { SideReady (without_work bench_control.now bench_samples.now bench_nodes.now bench_links.now)
-        (samples_of query.now) (length bench_trail.old)
-        × (work_needed (measures_of (without_work bench_control.now bench_samples.now bench_nodes.now bench_links.now))
-        ≤ length bench_work.old)
+    requires bench { SideReady (stored_tables bench_stored) (samples_of query.now) (length bench_trail.old)
+        × (work_needed (measures_of (stored_tables bench_stored)) ≤ length bench_work.old)
         × (2 ≤ length bench_list.old) }
-    ensures both_visited { BothVisited (without_work control.now samples.now nodes.now links.now)
-        (without_work bench_control.now bench_samples.now bench_nodes.now
-        bench_links.now)
-        (samples_of query.now) (slices work.old trail.old list.old)
-        (slices work.new trail.new list.new)
-        (slices bench_work.old bench_trail.old bench_list.old)
-        (slices bench_work.new bench_trail.new bench_list.new)
+    ensures both_visited { BothVisited (stored_tables stored.entry) (stored_tables bench_stored.entry)
+        (samples_of query.now) trail.old trail.new list.old list.new
+        bench_trail.old bench_trail.new bench_list.old bench_list.new
         result.factory result.bench }
-    ensures behind { drop (node_count (without_work control.now [] [] [])) work.new
-        ≡ drop (node_count (without_work control.now [] [] [])) work.old }
-    ensures bench_behind { drop (node_count (without_work bench_control.now [] [] [])) bench_work.new
-        ≡ drop (node_count (without_work bench_control.now [] [] [])) bench_work.old }
+    ensures behind { drop (node_count (stored_tables stored.entry)) work.new
+        ≡ drop (node_count (stored_tables stored.entry)) work.old }
+    ensures bench_behind { drop (node_count (stored_tables bench_stored.entry)) bench_work.new
+        ≡ drop (node_count (stored_tables bench_stored.entry)) bench_work.old }
 {
-    let mut sums: [i64; 257] = [0; 257];
-    let mut squares: [u64; 257] = [0; 257];
-    prefixes::prefix_sums(query, &mut sums, &mut squares);
-    let count = wide(field(control, NODE_COUNT));
-    let bench_count = wide(field(bench_control, NODE_COUNT));
+    let summed = Summed::of(query);
+    let count = wide(field(stored.control, NODE_COUNT));
+    let bench_count = wide(field(bench_stored.control, NODE_COUNT));
     visit_both(
-        control,
-        samples,
-        nodes,
-        links,
+        stored,
         &mut work[..count],
         trail,
         list,
-        bench_control,
-        bench_samples,
-        bench_nodes,
-        bench_links,
+        bench_stored,
         &mut bench_work[..bench_count],
         bench_trail,
         bench_list,
-        query,
-        &sums,
-        &squares,
+        &summed,
     )
 }
 
@@ -88,14 +69,14 @@ fn clear_work(control: &[u16], work: &mut [u64])
 {
     let capacity = tables::numbers::wider(field(control, CAPACITY));
     let needed = tables::control::records_needed(capacity);
-    tables::loops::zero_work(work, needed);
+    tables::loops::fill_first(work, needed, 0);
 }
 
-// Whether the nearest trace is the bench's, its number and its distance; the leaves read of each library, which its trail begins with; and
+// The library of the nearest trace, the trace's number and its distance; the leaves read of each library, which its trail begins with; and
 // the traces read, over both.
-#[derive(Drop)]
+#[derive(Clone, Copy, PartialEq, Eq)]
 pub struct BothSeen {
-    pub in_bench: bool,
+    pub library: Whose,
     pub trace: u64,
     pub distance: u64,
     pub out: usize,
@@ -108,59 +89,43 @@ pub struct BothSeen {
 // Two wrong programs that the contract rules out: one that answers the bench's trace at an equal distance, and one that leaves the search
 // work of an empty library as it was.
 pub fn search_both(
-    control: &[u16],
-    samples: &[Word],
-    nodes: &[i64],
-    links: &[u16],
-    bench_control: &[u16],
-    bench_samples: &[Word],
-    bench_nodes: &[i64],
-    bench_links: &[u16],
+    stored: Stored,
+    bench_stored: Stored,
     query: &[Word],
     work: &mut [u64],
     trail: &mut [u16],
     bench_work: &mut [u64],
     bench_trail: &mut [u16],
 ) -> BothSeen
-    requires side_ready { SideReady (without_work control.now samples.now nodes.now links.now) (samples_of query.now) (length trail.old)
-        × (work_needed (measures_of (without_work control.now samples.now nodes.now links.now)) ≤ length work.old) }
-    requires bench { SideReady (without_work bench_control.now bench_samples.now bench_nodes.now bench_links.now)
-        (samples_of query.now) (length bench_trail.old)
-        × (work_needed (measures_of (without_work bench_control.now bench_samples.now bench_nodes.now bench_links.now))
-        ≤ length bench_work.old) }
-    ensures { BothSearched (without_work control.now samples.now nodes.now links.now)
-        (without_work bench_control.now bench_samples.now bench_nodes.now
-        bench_links.now)
+    requires side_ready { SideReady (stored_tables stored) (samples_of query.now) (length trail.old)
+        × (work_needed (measures_of (stored_tables stored)) ≤ length work.old) }
+    requires bench { SideReady (stored_tables bench_stored) (samples_of query.now) (length bench_trail.old)
+        × (work_needed (measures_of (stored_tables bench_stored)) ≤ length bench_work.old) }
+    ensures { BothSearched (stored_tables stored.entry) (stored_tables bench_stored.entry)
         (samples_of query.now) work.old work.new trail.old trail.new
         bench_work.old bench_work.new bench_trail.old bench_trail.new
-        result.in_bench result.trace result.distance result.out result.bench_out result.traces }
+        result.library result.trace result.distance result.out result.bench_out result.traces }
 {
     let mut list: [u64; 2] = [0; 2];
     let mut bench_list: [u64; 2] = [0; 2];
     let both = search_lists(
-        control,
-        samples,
-        nodes,
-        links,
+        stored,
         work,
         trail,
         &mut list,
-        bench_control,
-        bench_samples,
-        bench_nodes,
-        bench_links,
+        bench_stored,
         bench_work,
         bench_trail,
         &mut bench_list,
         query,
     );
-    clear_work(control, work);
-    clear_work(bench_control, bench_work);
+    clear_work(stored.control, work);
+    clear_work(bench_stored.control, bench_work);
     let factory = both.factory;
     let bench = both.bench;
     let won = crate::winning::winner(&list, factory.listed, &bench_list, bench.listed);
     BothSeen {
-        in_bench: won.in_bench,
+        library: won.library,
         trace: won.trace,
         distance: won.distance,
         out: factory.out,

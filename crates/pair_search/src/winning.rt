@@ -5,10 +5,12 @@ ghost use Rattle.dstree.specs.Pair.{winner_of};
 ghost use Rattle.reading.specs.Listed.{nears_in};
 ghost use Rattle.pair_search.specs.Winning.{winner_by};
 
-// Whether the nearest trace is the bench's, its number and its distance.
-#[derive(Drop)]
+use crate::turns::Whose;
+
+// The library of the nearest trace, the trace's number and its distance.
+#[derive(Clone, Copy, PartialEq, Eq)]
 pub struct Won {
-    pub in_bench: bool,
+    pub library: Whose,
     pub trace: u64,
     pub distance: u64,
 }
@@ -38,13 +40,13 @@ pub fn winner(list: &[u64], listed: usize, bench_list: &[u64], bench_listed: usi
     let bench_distance = bench_list[1];
     if bench_wins(listed, distance, bench_listed, bench_distance) {
         return Won {
-            in_bench: true,
+            library: Whose::Bench,
             trace: bench_list[0],
             distance: bench_distance,
         };
     }
     Won {
-        in_bench: false,
+        library: Whose::Factory,
         trace: list[0],
         distance,
     }

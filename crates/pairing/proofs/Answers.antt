@@ -1,7 +1,7 @@
 -- What a search over two libraries leaves is what the definition of the call has: the answer, search work zeroed, both trails' beginnings.
 use Prim.Native.Nat.{ℕ}
 use mathlib.Core.Path.{◌≡◌, ap, ◌∙◌}
-use mathlib.Core.Bool.{Bool}
+use Rattle.pair_search.specs.declared.turns.Whose.{Whose}
 use mathlib.Core.Option.{none}
 use mathlib.Core.List.{List, [], ◌∷◌}
 use native.Mathlib.Omega.{arith}
@@ -31,12 +31,12 @@ module _ (F B : Tables) (query : Trace) (trail bench_trail : List ℕ) where
   abbrev lent : Tables → Tables
   lent t = without_work t.control t.samples t.nodes t.links
 
-  module _ (work' trail' bench_work' bench_trail' : List ℕ) (in_bench_lem : Bool) (trace distance out bench_out traces : ℕ)
+  module _ (work' trail' bench_work' bench_trail' : List ℕ) (library : Whose) (trace distance out bench_out traces : ℕ)
       (size : length trail' ≡ length trail) (bench_size : length bench_trail' ≡ length bench_trail)
       (s : BothSearched (lent F) (lent B) query F.work work' trail trail' B.work bench_work' bench_trail bench_trail'
-      in_bench_lem trace distance out bench_out traces) where
+      library trace distance out bench_out traces) where
     abbrev found : PairMatch
-    found = pair_match_by in_bench_lem trace distance out bench_out traces trail' bench_trail'
+    found = pair_match_by library trace distance out bench_out traces trail' bench_trail'
 
     found_is : found ≡ pair_by_steps (indexed_in F) (indexed_in B) query
     unfolding traces_in tree_in

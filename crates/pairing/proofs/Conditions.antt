@@ -19,7 +19,7 @@ use Rattle.tables.specs.Tables.{Tables, measures_of, trace_count, node_count}
 use Rattle.tables.specs.View.{tree_in, traces_in, kinds_named, well_formed}
 use Rattle.tables.specs.Answers.{found_by, made_conditions}
 use Rattle.tables.specs.declared.Refusal.{Refusal}
-use Rattle.tables.specs.declared.Verdict.TheVariants as v
+use Rattle.std.specs.Prelude.{Err}
 use Rattle.tables.proofs.Views.{traces_size}
 use Rattle.tables.proofs.Judged.{accepted}
 use Rattle.tables.proofs.Samples.{samples_inside_lem}
@@ -66,12 +66,12 @@ module _ (F B : Tables) (query : Trace) (trail trail' : List ℕ) where
   abbrev own_counted : List Condition
   own_counted = own (trace_count F) (trace_count B) (leaf_count F.nodes (node_count F) 0) (leaf_count B.nodes (node_count B) 0)
 
-  pub factory_refused : (why : Refusal) → first_of (made_conditions F) ≡ found_by (v.Refused why) → found_by (v.Refused why) ≡ first_of all
+  pub factory_refused : (why : Refusal) → found_by (Err why) ≡ first_of (made_conditions F) → found_by (Err why) ≡ first_of all
   unfolding pairs other_in pair_rest
   factory_refused why e = refused_first (made_conditions F) (made_conditions B ++ own_in) why e
 
   module _ (fine : first_of (made_conditions F) ≡ none) where
-    pub bench_refused : (why : Refusal) → first_of (made_conditions B) ≡ found_by (v.Refused why) → found_by (v.Refused why) ≡ first_of all
+    pub bench_refused : (why : Refusal) → found_by (Err why) ≡ first_of (made_conditions B) → found_by (Err why) ≡ first_of all
     unfolding pairs other_in pair_rest
     bench_refused why e =
         refused_first (made_conditions B) own_in why e ∙ sym (first_none (made_conditions F) (made_conditions B ++ own_in) fine)

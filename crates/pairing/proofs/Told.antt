@@ -1,7 +1,6 @@
 -- What is known of an answer by the call's equation alone: the leaves that it tells are in the trails. And the part that goes with it.
 use Prim.Native.Nat.{ℕ, ◌+◌, ◌≤◌}
 use mathlib.Core.Path.{◌≡◌, refl, sym, ap, subst}
-use mathlib.Core.Bool.{Bool, true, false}
 use mathlib.Core.List.{List}
 use native.Mathlib.Omega.{arith}
 use lib.ListN.{length, length-take}
@@ -18,8 +17,10 @@ use Rattle.calls.proofs.OffTrail.{answered}
 use Rattle.pair_search.specs.BothSearched.{indexed_in, pair_match_by}
 use Rattle.pairing.specs.Answered.{answer_by, leaves_by, factory_leaves_by}
 use Rattle.pairing.specs.Parts.{LentPart, stored_part, part_by, HandedBack}
-use Rattle.pairing.specs.declared.PairFound.{PairFound}
-use Rattle.pairing.specs.declared.PairFound.TheVariants as f
+use Rattle.std.specs.Prelude.{Result, Ok, Err}
+use Rattle.tables.specs.declared.Refusal.{Refusal}
+use Rattle.pair_search.specs.declared.turns.Whose.{Whose}
+use Rattle.pairing.specs.declared.Paired.{Paired}
 
 -- ---- the leaves
 
@@ -43,21 +44,20 @@ module _ (F B : Tables) (query : Trace) (trail₀ bench_trail₀ : List ℕ) (af
       (pair_steps (indexed_in F) (indexed_in B) query).leaves_counted
 
   module _ (trail bench_trail : List ℕ) where
-    in_trails : (in_bench_lem : Bool) (trace distance leaves bench_leaves traces : ℕ)
-        → Says (answering (paired (pair_match_by in_bench_lem trace distance leaves bench_leaves traces trail bench_trail)))
+    in_trails : (library : Whose) (trace distance leaves bench_leaves traces : ℕ)
+        → Says (answering (paired (pair_match_by library trace distance leaves bench_leaves traces trail bench_trail)))
         → (leaves ≤ length trail) × (leaves + bench_leaves ≤ length trail + length bench_trail)
-    in_trails in_bench_lem trace distance leaves bench_leaves traces e =
-        let c = counted (pair_match_by in_bench_lem trace distance leaves bench_leaves traces trail bench_trail) e in
+    in_trails library trace distance leaves bench_leaves traces e =
+        let c = counted (pair_match_by library trace distance leaves bench_leaves traces trail bench_trail) e in
         let a = length-take leaves trail in
         let b = length-take bench_leaves bench_trail in
         (omega (arith, a, b, c), omega (arith, a, b, c))
 
-    pub leaves_in : (found : PairFound) → Says (answer_by found trail bench_trail)
+    pub leaves_in : (found : Result Paired Refusal) → Says (answer_by found trail bench_trail)
         → (factory_leaves_by found ≤ length trail) × (leaves_by found ≤ length trail + length bench_trail)
     unfolding answer_by leaves_by factory_leaves_by
-    leaves_in (f.Factory trace distance leaves bench_leaves traces) e = in_trails false trace distance leaves bench_leaves traces e
-    leaves_in (f.Bench trace distance leaves bench_leaves traces) e = in_trails true trace distance leaves bench_leaves traces e
-    leaves_in (f.Refused why) e = (omega arith, omega arith)
+    leaves_in (Ok p) e = in_trails p.library p.trace p.distance p.leaves p.bench_leaves p.traces e
+    leaves_in (Err why) e = (omega arith, omega arith)
 
 -- ---- the part
 
@@ -68,14 +68,10 @@ same_match : (m k : PairMatch) → answering (paired m) ≡ answering (paired k)
 same_match m k e = cc
 
 module _ (trail bench_trail : List ℕ) (factory bench : LentPart) (n : ℕ) where
-  pub handed_back : (found : PairFound) → HandedBack (answer_by found trail bench_trail) factory bench n (part_by found factory bench n)
+  pub handed_back : (found : Result Paired Refusal) → HandedBack (answer_by found trail bench_trail) factory bench n (part_by found factory bench n)
   unfolding answer_by part_by
-  handed_back (f.Factory trace distance leaves bench_leaves traces) = record {
+  handed_back (Ok p) = record {
     winner = λ m e. ap (λ (x : PairMatch). stored_part (by_which x.which factory bench) n x.trace) (same_match _ m e);
     refusal = λ why e. no_refusal _ why e;
   }
-  handed_back (f.Bench trace distance leaves bench_leaves traces) = record {
-    winner = λ m e. ap (λ (x : PairMatch). stored_part (by_which x.which factory bench) n x.trace) (same_match _ m e);
-    refusal = λ why e. no_refusal _ why e;
-  }
-  handed_back (f.Refused why) = record { winner = λ m e. no_refusal m _ (sym e); refusal = λ w e. refl }
+  handed_back (Err why) = record { winner = λ m e. no_refusal m _ (sym e); refusal = λ w e. refl }

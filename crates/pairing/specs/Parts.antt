@@ -1,13 +1,14 @@
 -- Document 02, §11: the call "hands back the winning trace as part of the lent table it came from". A part is told by where it lies as well
 -- as by what it holds, so that equal words elsewhere are another part.
-use Rattle.std.specs.Prelude.{ℕ, suc, ◌+◌, ◌*◌, ◌≡◌, List, [], ℤ, length, leb, if◌then◌else◌}
+use Rattle.std.specs.Prelude.{ℕ, suc, ◌+◌, ◌*◌, ◌≡◌, List, [], ℤ, length, leb, if◌then◌else◌, Result, Ok, Err}
 use Rattle.dstree.specs.Refusals as word
 use Rattle.dstree.specs.Pair.{by_which, PairMatch}
 use Rattle.dstree.specs.Book.{Answer, answering, refusing, paired}
 use Rattle.tables.specs.Lent.{Signed}
 use Rattle.calls.specs.Pairs.{trace_words}
-use Rattle.pairing.specs.declared.PairFound.{PairFound}
-use Rattle.pairing.specs.declared.PairFound.TheVariants as f
+use Rattle.tables.specs.declared.Refusal.{Refusal}
+use Rattle.pair_search.specs.BothSearched.{which_by}
+use Rattle.pairing.specs.declared.Paired.{Paired}
 
 -- a part of lent memory: where its first word lies, as a number of bytes in a block of memory, and its words
 pub record LentPart : Type 0 where
@@ -36,10 +37,9 @@ unfoldable pub stored_part : LentPart → ℕ → ℕ → LentPart
 stored_part table n trace = if leb (suc trace * n) (length table.contents) then trace_part table n trace else no_words table
 
 -- what is handed back of two tables of samples with an answer of code
-unfoldable pub part_by : PairFound → LentPart → LentPart → ℕ → LentPart
-part_by (f.Factory trace distance leaves bench_leaves traces) factory bench n = stored_part factory n trace
-part_by (f.Bench trace distance leaves bench_leaves traces) factory bench n = stored_part bench n trace
-part_by (f.Refused why) factory bench n = no_words factory
+unfoldable pub part_by : Result Paired Refusal → LentPart → LentPart → ℕ → LentPart
+part_by (Ok p) factory bench n = stored_part (by_which (which_by p.library) factory bench) n p.trace
+part_by (Err why) factory bench n = no_words factory
 
 -- .. with an answer, of two tables of samples
 pub record HandedBack (answer : Answer) (factory bench : LentPart) (n : ℕ) (part : LentPart) : Type 0 where

@@ -6,18 +6,19 @@ ghost use Rattle.dstree.specs.Refusals.{first_of};
 ghost use Rattle.dstree.specs.Pair.{pair_conditions, of_factory};
 ghost use Rattle.tables.specs.Layout.{n_place, trace_count_place, node_count_place, record_places, node_places};
 ghost use Rattle.tables.specs.Tables as t;
-ghost use Rattle.tables.specs.Lent.{tables_before};
+ghost use Rattle.tables.specs.Shared.{tables_lent};
 ghost use Rattle.tables.specs.Answers.{found_by};
 ghost use Rattle.calls.specs.Effects.{other_in, pairs};
 ghost use Rattle.query_judging.specs.LeafCount.{leaf_count};
 
 use query_judging::is_short;
-use segment::{Sample, Word};
+use segment::Sample;
+use tables::Refusal;
 use tables::control::field;
 use tables::given::are_samples;
+use tables::lent::Lent;
 use tables::numbers::wide;
 use tables::places::{N, TRACE_COUNT};
-use tables::{Refusal, Verdict};
 use well_formed::judging::judge_tables;
 
 // Whether neither library has a trace.
@@ -39,7 +40,7 @@ fn judge_own(
     bench_nodes: &[i64],
     bench_trail: &[u16],
     query: &[Sample],
-) -> Verdict
+) -> Result<(), Refusal>
     requires { (t.field control.now node_count_place * record_places ≤ length nodes.now)
         × (t.field control.now node_count_place ≤ node_places)
         × (t.field bench_control.now node_count_place * record_places ≤ length bench_nodes.now)
@@ -55,74 +56,47 @@ fn judge_own(
     let unlike = n != wide(field(bench_control, N));
     let wrong = query.len() != n;
     if unlike {
-        return Verdict::Refused(Refusal::UnlikeLibraries);
+        return Err(Refusal::UnlikeLibraries);
     }
     if wrong {
-        return Verdict::Refused(Refusal::WrongTrace);
+        return Err(Refusal::WrongTrace);
     }
     let outside = !are_samples(query);
     if outside {
-        return Verdict::Refused(Refusal::SampleRange);
+        return Err(Refusal::SampleRange);
     }
     if none_stored(control, bench_control) {
-        return Verdict::Refused(Refusal::Empty);
+        return Err(Refusal::Empty);
     }
     if is_short(control, nodes, trail) {
-        return Verdict::Refused(Refusal::ShortTrail);
+        return Err(Refusal::ShortTrail);
     }
     if is_short(bench_control, bench_nodes, bench_trail) {
-        return Verdict::Refused(Refusal::ShortTrail);
+        return Err(Refusal::ShortTrail);
     }
-    Verdict::Fine
+    Ok(())
 }
 
 pub fn judge(
-    control: &[u16],
-    samples: &[Word],
-    nodes: &[i64],
-    links: &[u16],
-    work: &[u64],
-    labels: &[u64],
+    factory: Lent,
     trail: &[u16],
-    bench_control: &[u16],
-    bench_samples: &[Word],
-    bench_nodes: &[i64],
-    bench_links: &[u16],
-    bench_work: &[u64],
-    bench_labels: &[u64],
+    bench: Lent,
     bench_trail: &[u16],
     query: &[Sample],
-) -> Verdict
-    ensures { found_by result ≡ first_of (pairs
-        (tables_before control samples nodes links work labels) of_factory
-        (other_in (tables_before bench_control bench_samples bench_nodes bench_links bench_work bench_labels)
-        bench_trail.now)
+) -> Result<(), Refusal>
+    ensures { found_by result ≡ first_of (pairs (tables_lent factory.entry) of_factory
+        (other_in (tables_lent bench.entry) bench_trail.now)
         query.now trail.now).conditions }
 {
-    let made = judge_tables(control, samples, nodes, links, work, labels);
-    match made {
-        Verdict::Refused(why) => Verdict::Refused(why),
-        Verdict::Fine => {
-            let bench_made = judge_tables(
-                bench_control,
-                bench_samples,
-                bench_nodes,
-                bench_links,
-                bench_work,
-                bench_labels,
-            );
-            match bench_made {
-                Verdict::Refused(why) => Verdict::Refused(why),
-                Verdict::Fine => judge_own(
-                    control,
-                    nodes,
-                    trail,
-                    bench_control,
-                    bench_nodes,
-                    bench_trail,
-                    query,
-                ),
-            }
-        }
-    }
+    judge_tables(factory)?;
+    judge_tables(bench)?;
+    judge_own(
+        factory.control,
+        factory.nodes,
+        trail,
+        bench.control,
+        bench.nodes,
+        bench_trail,
+        query,
+    )
 }

@@ -4,94 +4,31 @@
 pub mod judging; // what a match over two libraries refuses
 pub mod parts; // the winning trace, as part of the table that it lies in
 
-ghost use Rattle.std.specs.Prelude.{◌≡◌, List, [], ◌∷◌, ℕ, ◌≤◌, length};
-ghost use Rattle.segment.specs.Limits.{sample_most, SamplesWithin};
-ghost use Rattle.dstree.specs.Measures.{work_needed};
+ghost use Rattle.std.specs.Prelude.{◌≡◌, [], ◌∷◌};
 ghost use Rattle.dstree.specs.Pair.{of_factory};
 ghost use Rattle.dstree.specs.Book as book;
-ghost use Rattle.tables.specs.Tables.{measures_of};
 ghost use Rattle.tables.specs.Lent.{tables_after_search, tables_before_search};
 ghost use Rattle.calls.specs.Outcome.{outcome};
 ghost use Rattle.calls.specs.Effects.{other_in, outcome_on};
-ghost use Rattle.search.specs.Searched.{without_work};
-ghost use Rattle.pair_search.specs.BothSearched.{SideReady, BothSearched, pair_match_by};
 ghost use Rattle.pairing.specs.Answered.{answer_by};
 
-use pair_search::searching::{BothSeen, search_both};
+use pair_search::searching::search_both;
+use pair_search::turns::Whose;
+use search::stored::Stored;
 use segment::{Sample, Word};
-use tables::{Refusal, Verdict};
+use tables::Refusal;
+use tables::given::words_for;
+use tables::lent::Lent;
 
-// Whose trace is the nearest: its number, its distance, the factory's leaves read, the bench's, and traces read over both. Or a refusal.
-#[derive(Clone, Copy)]
-pub enum PairFound {
-    Factory(u64, u64, u64, u64, u64),
-    Bench(u64, u64, u64, u64, u64),
-    Refused(Refusal),
-}
-
-// The search, for a query of plain samples: it is made words first.
-fn search_given(
-    control: &[u16],
-    samples: &[Word],
-    nodes: &[i64],
-    links: &[u16],
-    bench_control: &[u16],
-    bench_samples: &[Word],
-    bench_nodes: &[i64],
-    bench_links: &[u16],
-    query: &[Sample],
-    work: &mut [u64],
-    trail: &mut [u16],
-    bench_work: &mut [u64],
-    bench_trail: &mut [u16],
-) -> BothSeen
-    requires side_ready { SideReady (without_work control.now samples.now nodes.now links.now) query.now (length trail.old)
-        × (work_needed (measures_of (without_work control.now samples.now nodes.now links.now)) ≤ length work.old)
-        × SamplesWithin sample_most query.now }
-    requires bench { SideReady (without_work bench_control.now bench_samples.now bench_nodes.now bench_links.now)
-        query.now (length bench_trail.old)
-        × (work_needed (measures_of (without_work bench_control.now bench_samples.now bench_nodes.now bench_links.now))
-        ≤ length bench_work.old) }
-    ensures { BothSearched (without_work control.now samples.now nodes.now links.now)
-        (without_work bench_control.now bench_samples.now bench_nodes.now
-        bench_links.now)
-        query.now work.old work.new trail.old trail.new
-        bench_work.old bench_work.new bench_trail.old bench_trail.new
-        result.in_bench result.trace result.distance result.out result.bench_out result.traces }
-{
-    let mut words: [Word; 256] = [0; 256];
-    tables::given::words_of(query, &mut words);
-    let n = query.len();
-    search_both(
-        control,
-        samples,
-        nodes,
-        links,
-        bench_control,
-        bench_samples,
-        bench_nodes,
-        bench_links,
-        &words[..n],
-        work,
-        trail,
-        bench_work,
-        bench_trail,
-    )
-}
-
-// What was seen, as an answer.
-fn found_by(seen: BothSeen) -> PairFound
-    ensures { (trail bench_trail : List ℕ) → answer_by result trail bench_trail
-        ≡ book.answering (book.paired (pair_match_by seen.in_bench seen.trace seen.distance seen.out seen.bench_out
-        seen.traces trail bench_trail)) }
-{
-    let leaves = seen.out as u64;
-    let bench_leaves = seen.bench_out as u64;
-    let traces = seen.traces as u64;
-    if seen.in_bench {
-        return PairFound::Bench(seen.trace, seen.distance, leaves, bench_leaves, traces);
-    }
-    PairFound::Factory(seen.trace, seen.distance, leaves, bench_leaves, traces)
+// Whose trace is the nearest, its number and its distance, the factory's leaves read, the bench's, and traces read over both.
+#[derive(Clone, Copy, PartialEq, Eq)]
+pub struct Paired {
+    pub library: Whose,
+    pub trace: u64,
+    pub distance: u64,
+    pub leaves: u64,
+    pub bench_leaves: u64,
+    pub traces: u64,
 }
 
 // Finds the nearest trace of both libraries, the factory's on equal distance. Every refusal is decided before anything is written. Each
@@ -115,7 +52,7 @@ pub fn match_both(
     bench_labels: &[u64],
     bench_trail: &mut [u16],
     query: &[Sample],
-) -> PairFound
+) -> Result<Paired, Refusal>
     ensures { outcome (answer_by result trail.new bench_trail.new)
         (tables_after_search control samples nodes links work labels)
         (trail.new ∷ bench_trail.new ∷ bench_work.new ∷ [])
@@ -125,42 +62,52 @@ pub fn match_both(
         query.now trail.old)
         (tables_before_search control samples nodes links work labels) }
 {
-    let verdict = judging::judge(
+    let factory = Lent {
         control,
         samples,
         nodes,
         links,
         work,
         labels,
+    };
+    let bench = Lent {
+        control: bench_control,
+        samples: bench_samples,
+        nodes: bench_nodes,
+        links: bench_links,
+        work: bench_work,
+        labels: bench_labels,
+    };
+    judging::judge(factory, trail, bench, bench_trail, query)?;
+    let mut words: [Word; 256] = [0; 256];
+    let words = words_for(query, &mut words);
+    let stored = Stored {
+        control,
+        samples,
+        nodes,
+        links,
+    };
+    let bench_stored = Stored {
+        control: bench_control,
+        samples: bench_samples,
+        nodes: bench_nodes,
+        links: bench_links,
+    };
+    let seen = search_both(
+        stored,
+        bench_stored,
+        words,
+        work,
         trail,
-        bench_control,
-        bench_samples,
-        bench_nodes,
-        bench_links,
         bench_work,
-        bench_labels,
         bench_trail,
-        query,
     );
-    match verdict {
-        Verdict::Refused(why) => PairFound::Refused(why),
-        Verdict::Fine => {
-            let seen = search_given(
-                control,
-                samples,
-                nodes,
-                links,
-                bench_control,
-                bench_samples,
-                bench_nodes,
-                bench_links,
-                query,
-                work,
-                trail,
-                bench_work,
-                bench_trail,
-            );
-            found_by(seen)
-        }
-    }
+    Ok(Paired {
+        library: seen.library,
+        trace: seen.trace,
+        distance: seen.distance,
+        leaves: seen.out as u64,
+        bench_leaves: seen.bench_out as u64,
+        traces: seen.traces as u64,
+    })
 }

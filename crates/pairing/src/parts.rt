@@ -3,8 +3,10 @@
 ghost use Rattle.std.specs.Prelude.{◌≡◌};
 ghost use Rattle.pairing.specs.Parts.{lent_part, stored_part, part_by};
 
-use crate::PairFound;
+use crate::Paired;
+use pair_search::turns::Whose;
 use segment::Word;
+use tables::Refusal;
 
 // Trace number `trace` of a table of traces of n words; an empty part where the table does not hold all of it.
 fn stored_part<'a>(samples: &'a [Word], n: usize, trace: usize) -> &'a [Word]
@@ -27,13 +29,15 @@ pub fn won_part<'a>(
     samples: &'a [Word],
     bench_samples: &'a [Word],
     n: usize,
-    found: PairFound,
+    found: Result<Paired, Refusal>,
 ) -> &'a [Word]
     ensures { lent_part result ≡ part_by found (lent_part samples.entry) (lent_part bench_samples.entry) n }
 {
     match found {
-        PairFound::Factory(trace, _, _, _, _) => stored_part(samples, n, trace as usize),
-        PairFound::Bench(trace, _, _, _, _) => stored_part(bench_samples, n, trace as usize),
-        PairFound::Refused(_why) => &samples[..0],
+        Ok(paired) => match paired.library {
+            Whose::Factory => stored_part(samples, n, paired.trace as usize),
+            Whose::Bench => stored_part(bench_samples, n, paired.trace as usize),
+        },
+        Err(_why) => &samples[..0],
     }
 }

@@ -3,78 +3,40 @@
 // they are is `replay::play`'s contract; the file stdout has document 01's example, as it is run.
 #![tactic(auto)]
 
-ghost use Rattle.std.specs.Prelude.{◌≡◌, ◌≤◌, length};
+ghost use Rattle.std.specs.Prelude.{◌≡◌, IsErr, length};
 ghost use Rattle.play_script.specs.Rows.{opened_rows, filled_rows, read_rows, rows_laid};
 
-mod screen; // standard output
-
-use crate::screen::Screen;
+use replay::kinds::RowKind;
 use replay::play;
 use replay::replies::{REPLY_PLACES, lay};
-use replay::rows::{number_at, row_end};
+use replay::rows::{Rows, number_at};
+use screens::Screen;
 use segment::Word;
+use std::fmt::Display;
 use std::io;
-use tables::numbers::wider;
 
 // ---- on standard output. What is written there is no value that a contract can name
 
-fn print_name(out: &mut Screen, kind: u64) {
-    if kind == 0 {
-        print!(out; "opening");
-    } else if kind == 1 {
-        print!(out; "adding");
-    } else if kind == 2 {
-        print!(out; "match");
-    } else if kind == 3 {
-        print!(out; "writing");
-    } else {
-        print!(out; "reading");
-    }
-}
-
-fn print_numbers(out: &mut Screen, numbers: &[u64]) {
-    let mut i: usize = 0;
-    while i < numbers.len() {
-        print!(out; " {}", numbers[i]);
-        i += 1;
+// What numbers are called, and they behind it, in a line.
+fn print_line<T: Copy + Display + Drop>(out: &mut Screen, name: impl Display + Drop, numbers: &[T])
+    ensures { IsErr out.old.written → out.new.written ≡ out.old.written }
+{
+    print!(out; "{name}");
+    for number in numbers {
+        print!(out; " {}", *number);
     }
     println!(out);
-}
-
-// The reply that begins at a place, and where the next one begins.
-fn print_reply(out: &mut Screen, replies: &[u64], at: usize) -> usize
-    requires { at ≤ length replies.now }
-    ensures { result ≤ length replies.now }
-{
-    if replies.len() - at < REPLY_PLACES {
-        return at;
-    }
-    let end = at + REPLY_PLACES;
-    print_numbers(out, &replies[at..end]);
-    end
 }
 
 // A line for each row of a script. (Each of them makes a call, so that it has a reply.)
-fn print_replies(out: &mut Screen, script: &[u64], replies: &[u64]) {
-    let mut place: usize = 0;
-    let mut at: usize = 0;
-    while place < script.len() {
-        let from = place + 1;
-        let end = row_end(script, place);
-        print_name(out, number_at(&script[from..end], 0));
-        at = print_reply(out, replies, at);
-        place = end;
+fn print_replies(out: &mut Screen, script: &[u64], replies: &[u64])
+    ensures { IsErr out.old.written → out.new.written ≡ out.old.written }
+{
+    for (row, reply) in Rows(script).zip(replies.chunks_exact(REPLY_PLACES)) {
+        if let Ok(kind) = RowKind::try_from(number_at(row, 0)) {
+            print_line(out, kind, reply);
+        }
     }
-}
-
-fn print_trails(out: &mut Screen, trails: &[u16]) {
-    print!(out; "trails");
-    let mut i: usize = 0;
-    while i < trails.len() {
-        print!(out; " {}", wider(trails[i]));
-        i += 1;
-    }
-    println!(out);
 }
 
 // ---- the scripts: n = 4, capacity 3, leaf size 2, in tables that are just long enough
@@ -167,6 +129,6 @@ fn main(rt: HostRuntime) -> io::Result<()> {
         &mut replies,
     );
     print_replies(&mut out, &read, &replies);
-    print_trails(&mut out, &trails);
+    print_line(&mut out, "trails", &trails);
     out.end()
 }

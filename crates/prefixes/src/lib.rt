@@ -8,7 +8,7 @@ ghost use Rattle.segment.specs.Stored.{sample_of, samples_of};
 ghost use Rattle.dstree.specs.Measures.{sample_limit, most_samples};
 ghost use Rattle.dstree.specs.Figures.{run, width, sum_on, scatter_on};
 ghost use Rattle.tables.specs.Runs.{Inside};
-ghost use Rattle.prefixes.specs.Prefixes.{Prefixes, prefix_places};
+ghost use Rattle.prefixes.specs.Prefixes.{Prefixes};
 
 use segment::Word;
 use segment::figures::Figures;
@@ -19,7 +19,7 @@ fn with_sample(sum: i64, word: Word) -> i64
     requires { nat_abs sum ≤ total_room }
     ensures { result ≡ sum +ℤ sample_of word }
 {
-    sum + (sample_of(word) as i64)
+    sum + i64::from(sample_of(word))
 }
 
 // A sum of squares and one sample's more.
@@ -27,44 +27,53 @@ fn with_square(squares: u64, word: Word) -> u64
     requires { squares ≤ total_room }
     ensures { result ≡ squares + square (sample_of word) }
 {
-    squares + segment::figures::square(sample_of(word) as i64)
+    squares + segment::figures::square(i64::from(sample_of(word)))
 }
 
-// The sum and the sum of squares of the first i samples, at place i, from none of them to all. Sums that start at 1 do not meet this.
-pub fn prefix_sums(trace: &[Word], sums: &mut [i64; 257], squares: &mut [u64; 257])
-    requires { (length trace.now ≤ most_samples) × (length sums.old ≡ prefix_places) × (length squares.old ≡ prefix_places) }
-    ensures { Prefixes (samples_of trace.now) sums.new squares.new }
-{
-    sums[0] = 0;
-    squares[0] = 0;
-    let mut i: usize = 0;
-    while i < trace.len() {
-        sums[i + 1] = with_sample(sums[i], trace[i]);
-        squares[i + 1] = with_square(squares[i], trace[i]);
-        i += 1;
+// A trace with its sums over its first samples: what is worked out once for a query or a new trace, and asked at every node.
+#[derive(Drop)]
+pub struct Summed<'a> {
+    pub trace: &'a [Word],
+    sums: [i64; 257],
+    squares: [u64; 257],
+    pub ghost summed: { Prefixes (samples_of trace.now) sums squares },
+}
+
+impl<'a> Summed<'a> {
+    // At place i of each array, the first i samples', from none of them to all. The samples are looked at once, here. Sums that start at 1
+    // do not meet this.
+    pub fn of(trace: &'a [Word]) -> Summed<'a>
+        requires { length trace.now ≤ most_samples }
+        ensures { result.trace.now ≡ trace.now }
+    {
+        let mut sums: [i64; 257] = [0; 257];
+        let mut squares: [u64; 257] = [0; 257];
+        for (i, word) in trace.iter().enumerate() {
+            sums[i + 1] = with_sample(sums[i], *word);
+            squares[i + 1] = with_square(squares[i], *word);
+        }
+        Summed {
+            trace,
+            sums,
+            squares,
+        }
     }
-}
 
-// The figures on the samples `first` to `last`. The trace is not read: it says whose sums these are.
-pub fn figures_on(
-    trace: &[Word],
-    sums: &[i64; 257],
-    squares: &[u64; 257],
-    first: usize,
-    last: usize,
-) -> Figures
-    requires { Prefixes (samples_of trace.now) sums.now squares.now × Inside (length trace.now) first last }
-    ensures sum { result.sum ≡ sum_on (run first last) (samples_of trace.now) }
-    ensures scatter { result.scatter ≡ scatter_on (run first last) (samples_of trace.now) }
-    ensures size { (nat_abs result.sum ≤ sum_limit sample_limit (width (run first last)))
-        × (result.scatter ≤ scatter_limit sample_limit (width (run first last))) }
-{
-    let before = first - 1;
-    let sum = sums[last] - sums[before];
-    let total = squares[last] - squares[before];
-    let w = (last - before) as u64;
-    Figures {
-        sum,
-        scatter: segment::figures::scatter_from(w, sum, total),
+    // The figures on the samples `first` to `last`. The trace is not read.
+    pub fn figures_on(&self, first: usize, last: usize) -> Figures
+        requires { Inside (length self.now.trace.now) first last }
+        ensures sum { result.sum ≡ sum_on (run first last) (samples_of self.now.trace.now) }
+        ensures scatter { result.scatter ≡ scatter_on (run first last) (samples_of self.now.trace.now) }
+        ensures size { (nat_abs result.sum ≤ sum_limit sample_limit (width (run first last)))
+            × (result.scatter ≤ scatter_limit sample_limit (width (run first last))) }
+    {
+        let before = first - 1;
+        let sum = self.sums[last] - self.sums[before];
+        let total = self.squares[last] - self.squares[before];
+        let w = (last - before) as u64;
+        Figures {
+            sum,
+            scatter: segment::figures::scatter_from(w, sum, total),
+        }
     }
 }

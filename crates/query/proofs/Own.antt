@@ -8,19 +8,23 @@ use lib.IntN.{ℤ}
 use lib.ListN.{length, length-map}
 use Rattle.integer.specs.Words.{counting}
 use Rattle.integer.proofs.Times.{counting_length}
+use Rattle.segment.specs.Limits.{bound_limit}
 use Rattle.segment.specs.Stored.{samples_of}
 use Rattle.segment.proofs.Stored.{samples_length}
+use Rattle.segment.proofs.Limits.{bound_limit_lem}
 use Rattle.dstree.specs.Measures.{Trace, sample_limit, most_samples}
-use Rattle.dstree.specs.Figures.{Run, run, width}
+use Rattle.dstree.specs.Figures.{Run, run, width, sum_on, scatter_on}
 use Rattle.dstree.specs.Node.{Segment, ends, total_over}
 use Rattle.dstree.specs.Formed.{Rises, rises_more, Limited, AllLimited, l_more}
-use Rattle.dstree.specs.Matching.{own_bound}
+use Rattle.dstree.specs.Matching.{bound_on, own_bound}
 use Rattle.dstree.specs.Bands.{own_upper}
 use Rattle.dstree.proofs.Cuts.{parted_rises}
 use Rattle.tables.proofs.Views.{end_at}
+use Rattle.tables.specs.Runs.{Inside}
 use Rattle.tables.specs.Layout.{segments_place, segment_at}
 use Rattle.tables.specs.View.{small_at, segment_in, segments_in, node_in}
 use Rattle.prefixes.specs.Prefixes.{Prefixes}
+use Rattle.prefixes.proofs.Cut as cut
 use Rattle.query.specs.Bounded.{Bounded, bound_by, upper_by}
 
 -- the own bound of the node that a record stands for, whatever its kind
@@ -121,3 +125,32 @@ module _ (r : List ℤ) (n : ℕ) (b : Bounded r n) where
     rises = subst (λ (s : List Segment). Rises n 1 (ends s)) (sym (after_start r)) (parted_rises b.fits.parted);
     limited = subst (AllLimited sample_limit 1) (sym (after_start r)) b.limited;
   }
+
+-- ---- a bound's size: so much for each sample
+
+module _ {trace : Trace} {sums : List ℤ} {squares : List ℕ} (p : Prefixes trace sums squares) where
+  term_small : {first last : ℕ} → Inside (length trace) first last → (s : Segment) → Limited sample_limit (width (run first last)) s
+      → bound_on trace (run first last) s ≤ bound_limit sample_limit (width (run first last))
+  unfolding bound_on
+  term_small {first} {last} i s m =
+      bound_limit_lem sample_limit (width (run first last)) (sum_on (run first last) trace) (scatter_on (run first last) trace)
+      s.least_sum s.greatest_sum s.least_scatter s.greatest_scatter (omega (arith, i.rises))
+      (cut.sum_size p i) m.least_sum_lem m.greatest_sum_lem (cut.scatter_size p i) (omega (arith, m.scatters, m.greatest_scatter_lem))
+
+  terms_small : (first : ℕ) (segments : List Segment) → 1 ≤ first → first ≤ length trace + 1 → Rises (length trace) first (ends segments)
+      → AllLimited sample_limit first segments
+      → total_over (bound_on trace) first segments + bound_limit sample_limit first ≤ bound_limit sample_limit (length trace + 1)
+  unfolding total_over sample_limit bound_limit
+  terms_small first [] f h r a = omega arith
+  terms_small first (s ∷ rest) f h (rises_more a b r) (l_more c d) =
+      let here = term_small (record { from_1 = f; rises = a; to_n = b }) s c in
+      let on = terms_small (suc s.end) rest (omega arith) (omega (arith, b)) r d in
+      omega (arith, here, on, a)
+
+pub bound_small : (words : List ℤ) {sums : List ℤ} {squares : List ℕ} → Prefixes (samples_of words) sums squares → (r : List ℤ) → Bounded r (length words)
+    → bound_by (samples_of words) r ≤ bound_limit sample_limit most_samples
+unfolding sample_limit bound_limit
+bound_small words p r b =
+    let n = samples_length words in
+    let small = terms_small p 1 (segments_in r) (omega arith) (omega arith) (subst (λ (k : ℕ). Rises k 1 (ends (segments_in r))) (sym n) (parted_rises b.fits.parted)) b.limited in
+    omega (arith, small, few_words words p, n)

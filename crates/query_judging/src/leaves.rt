@@ -1,25 +1,21 @@
 // How many leaves a table of records has.
 
-ghost use Rattle.std.specs.Prelude.{◌≡◌, ◌+◌, ◌*◌, ◌≤◌, ◌<◌, length};
+ghost use Rattle.std.specs.Prelude.{◌≡◌, ◌+◌, ◌*◌, ◌≤◌, length};
 ghost use Rattle.tables.specs.Layout.{record_places, node_places};
 ghost use Rattle.dstree.specs.Measures.{most_nodes};
-ghost use Rattle.query_judging.specs.LeafCount.{leaf_in, one_if, leaf_count};
+ghost use Rattle.query_judging.specs.LeafCount.{leaf_in, leaf_count};
 
-use tables::places::KIND;
+use tables::kinds::{Kind, node_kind};
 
-// 1 for a leaf and 0 for an inner node, which is of kind 1 or 2.
-fn leaf_one(nodes: &[i64], j: usize) -> usize
+// Record j is a leaf's. One of no kind reads as a leaf's too.
+fn reads_as_leaf(nodes: &[i64], j: usize) -> bool
     requires { (j * record_places + record_places ≤ length nodes.now) × (j ≤ most_nodes) }
-    ensures { result ≡ one_if (leaf_in nodes.now j) }
+    ensures { result ≡ leaf_in nodes.now j }
 {
-    let kind = tables::records::node_small(nodes, j, KIND);
-    if kind == 1 {
-        return 0;
+    match node_kind(nodes, j) {
+        Some(kind) => kind == Kind::Leaf,
+        None => true,
     }
-    if kind == 2 {
-        return 0;
-    }
-    1
 }
 
 // The leaves among the first m records.
@@ -28,10 +24,8 @@ pub fn leaf_count(nodes: &[i64], m: usize) -> usize
     ensures { result ≡ leaf_count nodes.now m 0 }
 {
     let mut total: usize = 0;
-    let mut j: usize = 0;
-    while j < m {
-        total += leaf_one(nodes, j);
-        j += 1;
+    for j in 0..m {
+        total += usize::from(reads_as_leaf(nodes, j));
     }
     total
 }

@@ -13,11 +13,11 @@ ghost use Rattle.calls.specs.Effects.{run_conditions_in, query_conditions_in};
 ghost use Rattle.query_judging.specs.LeafCount.{leaf_count};
 
 use segment::Sample;
+use tables::Refusal;
 use tables::control::field;
 use tables::given::are_samples;
 use tables::numbers::wide;
 use tables::places::{N, NODE_COUNT, TRACE_COUNT};
-use tables::{Refusal, Verdict};
 
 // Whether a trail has fewer places than the tree has leaves.
 pub fn is_short(control: &[u16], nodes: &[i64], trail: &[u16]) -> bool
@@ -38,7 +38,7 @@ pub fn judge_run(
     run: &[Sample],
     size: usize,
     trail: &[u16],
-) -> Verdict
+) -> Result<(), Refusal>
     requires { (t.field control.now node_count_place * record_places ≤ length nodes.now)
         × (t.field control.now node_count_place ≤ node_places) }
     ensures { (samples : List ℤ) (links work : List ℕ) → found_by result ≡ first_of (run_conditions_in
@@ -48,23 +48,28 @@ pub fn judge_run(
     let wrong = run.len() != size;
     let empty = stored == 0;
     if wrong {
-        return Verdict::Refused(Refusal::WrongTrace);
+        return Err(Refusal::WrongTrace);
     }
     let outside = !are_samples(run);
     if outside {
-        return Verdict::Refused(Refusal::SampleRange);
+        return Err(Refusal::SampleRange);
     }
     if empty {
-        return Verdict::Refused(Refusal::Empty);
+        return Err(Refusal::Empty);
     }
     if is_short(control, nodes, trail) {
-        return Verdict::Refused(Refusal::ShortTrail);
+        return Err(Refusal::ShortTrail);
     }
-    Verdict::Fine
+    Ok(())
 }
 
 // .. of one query, which is as long as a trace.
-pub fn judge_query(control: &[u16], nodes: &[i64], query: &[Sample], trail: &[u16]) -> Verdict
+pub fn judge_query(
+    control: &[u16],
+    nodes: &[i64],
+    query: &[Sample],
+    trail: &[u16],
+) -> Result<(), Refusal>
     requires { (t.field control.now node_count_place * record_places ≤ length nodes.now)
         × (t.field control.now node_count_place ≤ node_places) }
     ensures { (samples : List ℤ) (links work : List ℕ) → found_by result ≡ first_of (query_conditions_in

@@ -192,9 +192,6 @@ module _ (m : ℕ) (t d : ℕ) (l₀ l : List ℕ) (i : ℕ) (room : 2 * m + 2 �
       ∙ (ap (λ (r : List Near). take i (nears_in m l₀) ++ (near t d ∷ r)) s.behind
       ∙ sym (inserted_at is_nearer (near t d) i (nears_in m l₀) o s.comes_first))))
 
-  pub end_rest : drop (2 * (m + 1)) (put_in l i t d) ≡ drop (2 * (m + 1)) l₀
-  end_rest = put_rest (2 * (m + 1)) l i t d (omega (arith, s.few)) ∙ s.rest
-
 -- ---- one trace more, of which the k nearest stay
 
 module _ (k many t d : ℕ) (l : List ℕ) (r : ListRoom k many l) where

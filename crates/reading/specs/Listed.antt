@@ -1,5 +1,5 @@
 -- The nearest traces so far, in the caller's list: records of two places, trace number and distance, from the first place on.
-use Rattle.std.specs.Prelude.{ℕ, ◌+◌, ◌*◌, ◌-◌, ◌^◌, ◌≤◌, ◌≡◌, List, map, length, get_or, drop, ltb, if◌then◌else◌}
+use Rattle.std.specs.Prelude.{ℕ, ◌+◌, ◌*◌, ◌-◌, ◌^◌, ◌≤◌, ◌≡◌, List, map, length, get_or, drop, ltb, if◌then◌else◌, Option, Some, None}
 use Rattle.integer.specs.Words.{counting}
 use Rattle.integer.specs.Sorting.{Ordered}
 use Rattle.dstree.specs.Matching.{Near, is_nearer}
@@ -12,6 +12,10 @@ record_at list i = near (get_or list (2 * i) 0) (get_or list (2 * i + 1) 0)
 -- the first m records
 unfoldable pub nears_in : ℕ → List ℕ → List Near
 nears_in m list = map (record_at list) (counting m 0)
+
+-- the k-th record's distance, if so many are listed
+unfoldable pub kth_distance : ℕ → ℕ → List ℕ → Option ℕ
+kth_distance k many list = if ltb many k then None else Some (record_at list (k - 1)).distance
 
 -- no distance of 256 samples passes this
 abbrev pub no_limit : ℕ

@@ -37,14 +37,14 @@ fn take_trace(
 }
 
 // What a leaf's reading leaves: how many traces are listed, and how many were read.
-#[derive(Drop)]
+#[derive(Clone, Copy, PartialEq, Eq)]
 pub struct LeafRead {
     pub listed: usize,
     pub traces: usize,
 }
 
-// The leaf is the list of traces that starts at `head`. A walk that leaves its last trace out, or that stops at a near one, does not meet
-// this.
+// The leaf is the list of traces that starts at `head`, along links, so that no index is counted. A walk that leaves its last trace out,
+// or that stops at a near one, does not meet this.
 pub fn read_leaf(
     samples: &[Word],
     links: &[u16],

@@ -1,11 +1,12 @@
 // The nearest traces so far, in a list that the caller lends: two places a record, trace number and distance, by distance and then by
 // number.
+// The records lie flat in the lent places, and not as pairs: the C interface has them so.
 ghost use Rattle.std.specs.Prelude.{◌≡◌, ◌+◌, ◌*◌, ◌-◌, ◌≤◌, length, get_or, drop, set};
 ghost use Rattle.integer.specs.Sorting.{sorted_with, Ordered};
 ghost use Rattle.dstree.specs.Matching.{is_nearer};
 ghost use Rattle.dstree.specs.KNearest.{list_with};
 ghost use Rattle.reading.specs.Nearest.{near};
-ghost use Rattle.reading.specs.Listed.{record_at, nears_in, limit_of, ListRoom, ListBegins};
+ghost use Rattle.reading.specs.Listed.{record_at, nears_in, kth_distance, limit_of, ListRoom, ListBegins};
 
 // A trace comes before record i: it is nearer, or as near with a lower number.
 fn comes_before(list: &[u64], i: usize, trace: u64, distance: u64) -> bool
@@ -23,13 +24,16 @@ fn comes_before(list: &[u64], i: usize, trace: u64, distance: u64) -> bool
     trace < list[at]
 }
 
-// The distance of the k-th record.
-pub fn kth_distance(list: &[u64], k: usize) -> u64
+// The distance of the k-th record, if so many are listed.
+pub fn kth_distance(list: &[u64], listed: usize, k: usize) -> Option<u64>
     requires { (1 ≤ k) × (2 * k ≤ length list.now) }
-    ensures { result ≡ (record_at list.now (k - 1)).distance }
+    ensures { result ≡ kth_distance k listed list.now }
 {
+    if listed < k {
+        return None;
+    }
     let at = 2 * (k - 1);
-    list[at + 1]
+    Some(list[at + 1])
 }
 
 // 2^49, which no distance of 256 samples passes. (A limit of 2^64 - 1 the compiler would see to be none, and make no vector code.)
@@ -40,10 +44,7 @@ pub fn limit_of(list: &[u64], listed: usize, k: usize) -> u64
     requires { (1 ≤ k) × (2 * k ≤ length list.now) }
     ensures { result ≡ limit_of k listed list.now }
 {
-    if listed < k {
-        return NO_LIMIT;
-    }
-    kth_distance(list, k)
+    kth_distance(list, listed, k).unwrap_or(NO_LIMIT)
 }
 
 // Record i is this trace then.
@@ -75,17 +76,14 @@ fn insert(list: &mut [u64], m: usize, trace: u64, distance: u64)
         ≡ sorted_with is_nearer (near trace distance) (nears_in m list.old) }
     ensures rest { drop (2 * (m + 1)) list.new ≡ drop (2 * (m + 1)) list.old }
 {
-    let mut i = m;
-    while 0 < i {
-        let ahead = i - 1;
-        if !comes_before(list, ahead, trace, distance) {
-            put(list, i, trace, distance);
+    for i in (0..m).rev() {
+        if !comes_before(list, i, trace, distance) {
+            put(list, i + 1, trace, distance);
             return;
         }
-        move_on(list, ahead);
-        i = ahead;
+        move_on(list, i);
     }
-    put(list, i, trace, distance);
+    put(list, 0, trace, distance);
 }
 
 // One trace more, of which the k nearest stay; answers how many are listed then. Most traces are no nearer than the k-th: one test is

@@ -1,3 +1,4 @@
 pub mod Begins
 pub mod Put
 pub mod HoldsTrace
+pub mod Words

@@ -13,13 +13,13 @@ fn riff_fits(bytes: &[u8]) -> bool
     requires { header_size ≤ length bytes.now }
     ensures { result ≡ begins (riff_fields (size_in bytes.now)) bytes.now }
 {
-    if four_bytes(bytes, 0) != four_bytes(&RIFF, 0) {
+    if bytes[..4] != RIFF[..] {
         return false;
     }
     if four_bytes(bytes, 4) != 36 + four_bytes(bytes, 40) {
         return false;
     }
-    four_bytes(bytes, 8) == four_bytes(&WAVE, 0)
+    bytes[8..12] == WAVE[..]
 }
 
 // ""fmt " of 16 bytes, format 1, one channel"
@@ -27,7 +27,7 @@ fn format_fits(bytes: &[u8]) -> bool
     requires { header_size ≤ length bytes.now }
     ensures { result ≡ begins format_fields (drop format_place bytes.now) }
 {
-    if four_bytes(bytes, 12) != four_bytes(&FORMAT, 0) {
+    if bytes[12..16] != FORMAT[..] {
         return false;
     }
     if four_bytes(bytes, 16) != 16 {
@@ -58,7 +58,7 @@ fn data_fits(bytes: &[u8]) -> bool
     requires { header_size ≤ length bytes.now }
     ensures { result ≡ begins (data_fields (size_in bytes.now)) (drop data_place bytes.now) }
 {
-    four_bytes(bytes, 36) == four_bytes(&DATA, 0)
+    bytes[36..40] == DATA[..]
 }
 
 // A file begins with the header for the rate and the size that it says.

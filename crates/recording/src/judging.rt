@@ -4,7 +4,6 @@ ghost use Rattle.std.specs.Prelude.{◌≡◌, ◌<◌};
 ghost use Rattle.dstree.specs.Recording.{is_recording, judge_recording};
 ghost use Rattle.recording.specs.FileTraces.{traces_found, traces_recorded};
 
-use crate::FileTraces;
 use crate::header::header_fits;
 use sheet::fields::four_bytes;
 
@@ -32,16 +31,16 @@ fn is_recording(bytes: &[u8], n: u64) -> bool
     size / 2 % n == 0
 }
 
-// How many traces of n samples a file holds.
+// How many traces of n samples a file holds, or none: a bad recording.
 //
 // Two wrong programs that the contract rules out: one that takes a file with a byte behind its data, and one whose sizes are numbers of 32
 // bits, so that a data size of 2^32 - 36 has a RIFF size of 0.
-pub fn judge_recording(bytes: &[u8], n: usize) -> FileTraces
+pub fn judge_recording(bytes: &[u8], n: usize) -> Option<u64>
     requires { 0 < n }
     ensures { traces_found result ≡ traces_recorded (judge_recording n bytes.now) }
 {
     if !is_recording(bytes, n as u64) {
-        return FileTraces::Bad;
+        return None;
     }
-    FileTraces::Traces(four_bytes(bytes, 40) / 2 / n as u64)
+    Some(four_bytes(bytes, 40) / 2 / n as u64)
 }

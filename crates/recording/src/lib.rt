@@ -6,10 +6,3 @@ pub mod header; // the header's sections, compared and written
 pub mod judging; // how many traces a file holds
 pub mod samples; // the traces of a sound file, one at a time
 pub mod writing; // one trace as a file
-
-// How many traces a file holds, or that it is a bad recording.
-#[derive(Drop)]
-pub enum FileTraces {
-    Bad,
-    Traces(u64),
-}

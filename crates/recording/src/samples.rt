@@ -6,6 +6,7 @@ ghost use Rattle.dstree.specs.Recording.{recorded_traces};
 ghost use Rattle.recording.specs.HoldsTrace.{HoldsTrace};
 
 use segment::Word;
+use sheet::formats::Format;
 use sheet::samples::copy_samples;
 
 // A trace by its number. Its samples stand one behind another.
@@ -15,5 +16,5 @@ pub fn read_trace(bytes: &[u8], number: usize, trace: &mut [Word])
 {
     let n = trace.len();
     let from = 44 + 2 * (number * n);
-    copy_samples(&bytes[from..from + 2 * n], trace, false);
+    copy_samples(&bytes[from..from + 2 * n], trace, Format::Narrow);
 }

@@ -8,6 +8,7 @@ ghost use Rattle.dstree.specs.Recording.{header_size, rate_limit, recording_of};
 
 use crate::header::put_header;
 use segment::Word;
+use sheet::formats::Format;
 use sheet::samples::put_samples;
 
 // The recording of a trace, in the first places of a buffer; the rest of it stays.
@@ -16,5 +17,5 @@ pub fn write_recording(buffer: &mut [u8], rate: u64, trace: &[Word])
     ensures { buffer.new ≡ over (recording_of rate (samples_of trace.now)) buffer.old }
 {
     put_header(buffer, rate, 2 * trace.len() as u64);
-    put_samples(buffer, 44, trace, false);
+    put_samples(buffer, 44, trace, Format::Narrow);
 }

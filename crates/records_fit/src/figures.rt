@@ -3,9 +3,9 @@
 ghost use Rattle.std.specs.Prelude.{◌≡◌, ℕ, ◌≤◌, ◌<◌, ◌^◌, pos, neg_ℤ, T};
 ghost use Rattle.std.specs.Int.Signed.{le_z};
 ghost use Rattle.dstree.specs.Measures.{sample_limit, most_samples};
+ghost use Rattle.dstree.specs.Node.{by_sum, by_scatter};
 ghost use Rattle.dstree.specs.WellFormed.{segment_fits, threshold_fits};
 ghost use Rattle.tables.specs.View.{scatter_in};
-ghost use Rattle.records_fit.specs.Fits.{figure_named};
 
 const SAMPLE_LIMIT: u64 = 524288; // samples are from −SAMPLE_LIMIT to SAMPLE_LIMIT − 1
 
@@ -72,19 +72,24 @@ pub fn figures_fit(
     not_above(limit * limit, greatest_scatter)
 }
 
-// A threshold on a run of w samples, by the kind of its node: up to twice the limit of a sum, which is that of a scatter's root too; either
-// side of 0 by sum, from 0 by scatter.
-pub fn threshold_fits(kind: usize, w: u64, threshold: i64) -> bool
+// A threshold by sum on a run of w samples: up to twice the limit of a sum, either side of 0.
+pub fn sum_threshold_fits(w: u64, threshold: i64) -> bool
     requires { w ≤ most_samples }
-    ensures { result ≡ threshold_fits sample_limit (figure_named kind) w threshold }
+    ensures { result ≡ threshold_fits sample_limit by_sum w threshold }
 {
     let limit = w * SAMPLE_LIMIT;
-    if kind == 1 {
-        if !not_above(2 * limit, threshold) {
-            return false;
-        }
-        return not_below(2 * limit, threshold);
+    if !not_above(2 * limit, threshold) {
+        return false;
     }
+    not_below(2 * limit, threshold)
+}
+
+// A threshold by scatter: up to the same limit, which is that of a scatter's root too, from 0 on.
+pub fn scatter_threshold_fits(w: u64, threshold: i64) -> bool
+    requires { w ≤ most_samples }
+    ensures { result ≡ threshold_fits sample_limit by_scatter w threshold }
+{
+    let limit = w * SAMPLE_LIMIT;
     if !in_order(0, threshold) {
         return false;
     }

@@ -6,12 +6,15 @@ ghost use Rattle.dstree.specs.Figures.{run};
 ghost use Rattle.dstree.specs.Node.{inner, most_segments};
 ghost use Rattle.dstree.specs.WellFormed.{segment_fits, test_fits};
 ghost use Rattle.tables.specs.Layout.{record_places};
+ghost use Rattle.tables.specs.Kinds.{number_of};
 ghost use Rattle.tables.specs.View.{small_most, small_of, segment_in};
 ghost use Rattle.records_fit.specs.Fits.{figure_named, between, child_fits, head_fits, segments_hold, record_fits, segments_in_from};
 ghost use Rattle.records_fit.specs.Fits.{rest_holds};
 
+use crate::figures::{figures_fit, scatter_threshold_fits, sum_threshold_fits};
+use tables::kinds::{Kind, kind_at};
 use tables::places::{
-    FIRST, GREATEST_SCATTER, GREATEST_SUM, HEAD, KIND, LEAST_SCATTER, LEAST_SUM, RIGHT, RUN_FIRST,
+    FIRST, GREATEST_SCATTER, GREATEST_SUM, HEAD, LEAST_SCATTER, LEAST_SUM, RIGHT, RUN_FIRST,
     RUN_LAST, SEGMENT, SEGMENTS, THRESHOLD,
 };
 use tables::records::{small_at, value_at};
@@ -63,7 +66,7 @@ pub fn segment_fits(places: &[i64], i: usize, w: u64) -> bool
     let greatest_sum = value_at(places, at + GREATEST_SUM);
     let least_scatter = value_at(places, at + LEAST_SCATTER);
     let greatest_scatter = value_at(places, at + GREATEST_SCATTER);
-    crate::figures::figures_fit(w, least_sum, greatest_sum, least_scatter, greatest_scatter)
+    figures_fit(w, least_sum, greatest_sum, least_scatter, greatest_scatter)
 }
 
 // The first `count` segments: their ends rise to n, and their figures are in their limits.
@@ -72,8 +75,7 @@ fn segments_run(places: &[i64], count: usize, n: usize) -> bool
     ensures { result ≡ rest_holds n 0 (segments_in_from places.now count 0) }
 {
     let mut before: usize = 0;
-    let mut i: usize = 0;
-    while i < count {
+    for i in 0..count {
         if !end_behind(places, i, before, n) {
             return false;
         }
@@ -82,7 +84,6 @@ fn segments_run(places: &[i64], count: usize, n: usize) -> bool
             return false;
         }
         before = end;
-        i += 1;
     }
     before == n
 }
@@ -114,11 +115,11 @@ fn child_fits(m: usize, j: usize, child: usize) -> bool
 }
 
 // A test: its run lies inside 1 to n, and its threshold within the limits.
-fn test_fits(kind: usize, first: usize, last: usize, threshold: i64, n: usize) -> bool
+fn test_fits(kind: Kind, first: usize, last: usize, threshold: i64, n: usize) -> bool
     requires { n ≤ most_samples }
     ensures { (left right : ℕ) →
         result ≡ test_fits sample_limit n
-        (inner (record { on = run first last; figure = figure_named kind; threshold = threshold }) left right) }
+        (inner (record { on = run first last; figure = figure_named (number_of kind); threshold = threshold }) left right) }
 {
     if first < 1 {
         return false;
@@ -129,7 +130,11 @@ fn test_fits(kind: usize, first: usize, last: usize, threshold: i64, n: usize) -
     if n < last {
         return false;
     }
-    crate::figures::threshold_fits(kind, (last + 1 - first) as u64, threshold)
+    let w = (last + 1 - first) as u64;
+    match kind {
+        Kind::BySum => sum_threshold_fits(w, threshold),
+        _ => scatter_threshold_fits(w, threshold),
+    }
 }
 
 // The kind of node j, and if it is an inner node its children and its test.
@@ -137,12 +142,11 @@ pub fn head_fits(places: &[i64], j: usize, m: usize, n: usize) -> bool
     requires { (length places.now ≡ record_places) × (n ≤ most_samples) }
     ensures { result ≡ head_fits n m j places.now }
 {
-    let kind = small_at(places, KIND);
-    if kind == 0 {
-        return true;
-    }
-    if 2 < kind {
+    let Some(kind) = kind_at(places) else {
         return false;
+    };
+    if kind == Kind::Leaf {
+        return true;
     }
     if !child_fits(m, j, small_at(places, FIRST)) {
         return false;

@@ -25,9 +25,8 @@ use Rattle.calls.proofs.OffTrail.{answered}
 use Rattle.calls.proofs.Remote.{code_at_lem}
 use Rattle.matching.specs.Answered as match
 use Rattle.matching.specs.declared.Found.{Found}
-use Rattle.matching.specs.declared.Found.TheVariants as f
+use Rattle.std.specs.Prelude.{Result, Ok, Err}
 use Rattle.remote.specs.Answered.{answer_by}
-use Rattle.remote.specs.declared.RemoteFound.TheVariants as r
 
 -- before the call, and what the match left
 module _ (t t' : Tables) (query : Trace) (trail trail' : List ℕ) where
@@ -35,7 +34,7 @@ module _ (t t' : Tables) (query : Trace) (trail trail' : List ℕ) where
   abbrev Ends : Answer → Type 0
   Ends answer = outcome answer t' (trail' ∷ []) ≡ outcome_on (remote_matching query trail) t
 
-  module _ (found : Found) (matches_so : outcome (match.answer_by found trail') t' (trail' ∷ []) ≡ outcome_on (matching query trail) t) where
+  module _ (found : Result Found Refusal) (matches_so : outcome (match.answer_by found trail') t' (trail' ∷ []) ≡ outcome_on (matching query trail) t) where
     same_refusal : (o : Option word.Refusal) (why : word.Refusal)
         → outcome (refusing why) t' (trail' ∷ []) ≡ unless_refused o t (trail ∷ []) (matches t query trail)
         → outcome (refusing why) t' (trail' ∷ []) ≡ unless_refused o t (trail ∷ []) (remotes t query trail)
@@ -46,13 +45,13 @@ module _ (t t' : Tables) (query : Trace) (trail trail' : List ℕ) where
         let z : ◌≡◌ {A = ℕ} 0 1 = cc in
         absurd (omega arith)
 
-    pub refused_answer : (why : Refusal) → found ≡ f.Refused why → Ends (answer_by (r.Refused why) trail')
+    pub refused_answer : (why : Refusal) → found ≡ Err why → Ends (answer_by (Err why) trail')
     unfolding match.answer_by answer_by outcome_on effect_of beside_of
     refused_answer why is =
         same_refusal (first_of (matches t query trail).conditions) (word_of why)
-        (ap (λ (x : Found). outcome (match.answer_by x trail') t' (trail' ∷ [])) (sym is) ∙ matches_so)
+        (ap (λ (x : Result Found Refusal). outcome (match.answer_by x trail') t' (trail' ∷ [])) (sym is) ∙ matches_so)
 
-    module _ (trace distance leaves traces : ℕ) (is : found ≡ f.At trace distance leaves traces) where
+    module _ (trace distance leaves traces : ℕ) (is : found ≡ Ok record { trace = trace; distance = distance; leaves = leaves; traces = traces }) where
       abbrev m : Match
       m = record { trace = trace; distance = distance; leaves = leaves; traces = traces; trail = take leaves trail' }
 
@@ -61,7 +60,7 @@ module _ (t t' : Tables) (query : Trace) (trail trail' : List ℕ) where
 
       so : outcome (answering (matched m)) t' (trail' ∷ []) ≡ outcome_on (matching query trail) t
       unfolding match.answer_by
-      so = ap (λ (x : Found). outcome (match.answer_by x trail') t' (trail' ∷ [])) (sym is) ∙ matches_so
+      so = ap (λ (x : Result Found Refusal). outcome (match.answer_by x trail') t' (trail' ∷ [])) (sym is) ∙ matches_so
 
       known : (first_of (matches t query trail).conditions ≡ none) × (matched seen ≡ matched m)
       unfolding outcome_on effect_of beside_of
@@ -80,7 +79,7 @@ module _ (t t' : Tables) (query : Trace) (trail trail' : List ℕ) where
       done_is = so ∙ ap (λ (o : Option word.Refusal). unless_refused o t (trail ∷ []) (matches t query trail)) known.0
 
       pub found_answer : (code : ℕ) → code ≡ (label_at (get_or t.labels trace 0)).code
-          → Ends (answer_by (r.At trace distance leaves traces code) trail')
+          → Ends (answer_by (Ok record { trace = trace; distance = distance; leaves = leaves; traces = traces; code = code }) trail')
       unfolding answer_by outcome_on effect_of beside_of label_at
       found_answer code code_is =
           ends_done t (trail ∷ []) (remotes t query trail) (remote_matched m code) t' (trail' ∷ []) known.0

@@ -8,16 +8,19 @@ ghost use Rattle.calls.specs.Outcome.{outcome};
 ghost use Rattle.calls.specs.Effects.{outcome_on};
 ghost use Rattle.remote.specs.Answered.{answer_by};
 
-use matching::{Found, nearest};
+use matching::nearest;
 use segment::{Sample, Word};
 use tables::Refusal;
 use tables::label_table::{code_in, place_at};
 
-// Trace number, distance, leaves read, traces read and fault code, or a refusal.
-#[derive(Drop)]
-pub enum RemoteFound {
-    At(u64, u64, u64, u64, u64),
-    Refused(Refusal),
+// The nearest trace's number and its distance, leaves read and traces read, and the trace's fault code.
+#[derive(Clone, Copy, Debug, PartialEq, Eq)]
+pub struct RemoteFound {
+    pub trace: u64,
+    pub distance: u64,
+    pub leaves: u64,
+    pub traces: u64,
+    pub code: u64,
 }
 
 // Finds the nearest trace and its fault code. It refuses what a match refuses and leaves what a match leaves: the trail begins with the
@@ -34,20 +37,20 @@ pub fn remote_match(
     labels: &[u64],
     trail: &mut [u16],
     query: &[Sample],
-) -> RemoteFound
+) -> Result<RemoteFound, Refusal>
     ensures { outcome (answer_by result trail.new)
         (tables_after_search control samples nodes links work labels)
         (trail.new ∷ [])
         ≡ outcome_on (remote_matching query.now trail.old)
         (tables_before_search control samples nodes links work labels) }
 {
-    let found = nearest(control, samples, nodes, links, work, labels, trail, query);
-    match found {
-        Found::At(trace, distance, leaves, traces) => {
-            let place = place_at(labels, trace as usize);
-            let code = code_in(place);
-            RemoteFound::At(trace, distance, leaves, traces, code)
-        }
-        Found::Refused(why) => RemoteFound::Refused(why),
-    }
+    let found = nearest(control, samples, nodes, links, work, labels, trail, query)?;
+    let place = place_at(labels, found.trace as usize);
+    Ok(RemoteFound {
+        trace: found.trace,
+        distance: found.distance,
+        leaves: found.leaves,
+        traces: found.traces,
+        code: code_in(place),
+    })
 }

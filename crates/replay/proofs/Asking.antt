@@ -2,9 +2,10 @@
 -- say.
 use Rattle.std.specs.Prelude.{if◌then◌else◌}
 use Prim.Native.Nat.{ℕ, ◌≤◌}
-use mathlib.Core.Path.{◌≡◌, refl, sym, ap, subst, ◌∙◌}
+use mathlib.Core.Path.{◌≡◌, refl, ap, subst}
 use mathlib.Core.Bool.{Bool, true, false}
-use mathlib.Core.Option.{Option, none, some, none-ne-some, some-injective}
+use Rattle.std.specs.Prelude.{Option, None, Some}
+use Rattle.std.proofs.lemmas.Option.{none-some, same_Some}
 use mathlib.Core.List.{List, [], ◌∷◌}
 use lib.ListN.{length}
 use lib.Dec.{T, leb, ltb, leb→le}
@@ -16,11 +17,9 @@ use Rattle.tables.specs.Tables.{lent_of}
 use Rattle.tables.specs.Beginning.{LentWithin}
 use Rattle.calls.specs.Follows.{Typed}
 use Rattle.replay.specs.declared.Amounts.{Amounts}
-use Rattle.replay.specs.declared.Wanted.{Wanted}
-use Rattle.replay.specs.declared.Plan.{Plan}
 use Rattle.replay.specs.Script.{State, RowAsk, ask_of, number_at, lent_by, next_of, ahead_of, CallKind, kinds, call_kind_at, fits_in, enough, if_enough, playable}
 use Rattle.replay.specs.Script.{asked_by, asks}
-use Rattle.replay.specs.Script.{takes_of, moved, moved_by, wanted_by, planned_by, taken_by, state_after}
+use Rattle.replay.specs.Script.{taken_by, state_after}
 use Rattle.replay.proofs.OfKind.{of_kind}
 
 -- ---- which call
@@ -39,25 +38,25 @@ fits_within lent lengths e =
       labels_within = leb→le lent.labels lengths.labels p.1.1.1.1.1;
     }
 
-if_some : {A : Type 0} (b : Bool) (o : Option A) (x : A) → (if b then o else none) ≡ some x → (b ≡ true) × (o ≡ some x)
+if_some : {A : Type 0} (b : Bool) (o : Option A) (x : A) → (if b then o else None) ≡ Some x → (b ≡ true) × (o ≡ Some x)
 if_some true o x e = (refl, e)
-if_some false o x e = absurd (none-ne-some x e)
+if_some false o x e = absurd (none-some x e)
 
 -- a row that can be played
 pub record Playable (lengths : Lent) (ahead : Amounts) (row : List ℕ) (k : CallKind) : Type 0 where
-  pub is_kind : call_kind_at kinds (number_at row 0) ≡ some k
+  pub is_kind : call_kind_at kinds (number_at row 0) ≡ Some k
   pub within : LentWithin (lent_by row) lengths
   pub samples_there : (k.takes row).samples ≤ ahead.samples
   pub trails_there : (k.takes row).trails ≤ ahead.trails
   pub sheets_there : (k.takes row).sheets ≤ ahead.sheets
 
-if_enough_lem : (o : Option CallKind) (row : List ℕ) (ahead : Amounts) (k : CallKind) → if_enough o row ahead ≡ some k → (o
-    ≡ some k) × (enough (k.takes row) ahead ≡ true)
+if_enough_lem : (o : Option CallKind) (row : List ℕ) (ahead : Amounts) (k : CallKind) → if_enough o row ahead ≡ Some k → (o
+    ≡ Some k) × (enough (k.takes row) ahead ≡ true)
 unfolding if_enough
-if_enough_lem none row ahead k e = absurd (none-ne-some k e)
-if_enough_lem (some k₀) row ahead k e =
-    let f = if_some (enough (k₀.takes row) ahead) (some k₀) k e in
-    (f.1, subst (λ (k : CallKind). enough (k.takes row) ahead ≡ true) (some-injective k₀ k f.1) f.0)
+if_enough_lem None row ahead k e = absurd (none-some k e)
+if_enough_lem (Some k₀) row ahead k e =
+    let f = if_some (enough (k₀.takes row) ahead) (Some k₀) k e in
+    (f.1, subst (λ (k : CallKind). enough (k.takes row) ahead ≡ true) (same_Some k₀ k f.1) f.0)
 
 pub enough_is : (size ahead : Amounts) → enough size ahead ≡ true
     → (size.samples ≤ ahead.samples) × (size.trails ≤ ahead.trails) × (size.sheets ≤ ahead.sheets)
@@ -70,7 +69,7 @@ enough_is size ahead e =
       leb→le size.sheets ahead.sheets p.1.1,
     )
 
-pub playable_is : (lengths : Lent) (ahead : Amounts) (row : List ℕ) (k : CallKind) → playable lengths ahead row ≡ some k
+pub playable_is : (lengths : Lent) (ahead : Amounts) (row : List ℕ) (k : CallKind) → playable lengths ahead row ≡ Some k
     → Playable lengths ahead row k
 unfolding playable
 playable_is lengths ahead row k e =
@@ -85,107 +84,41 @@ playable_is lengths ahead row k e =
       sheets_there = there.2;
     }
 
--- .. by how much is taken behind it
-pub record MovedOn (o : Option CallKind) (row : List ℕ) (at to : Amounts) : Type 0 where
-  pub kind : CallKind
-  pub is : o ≡ some kind
-  pub to_is : to ≡ moved at (kind.takes row)
-
-pub moved_is : (o : Option CallKind) (row : List ℕ) (at to : Amounts) → some to ≡ moved_by o row at → MovedOn o row at to
-unfolding moved_by
-moved_is none row at to e = absurd (none-ne-some to (sym e))
-moved_is (some k) row at to e = record { kind = k; is = refl; to_is = some-injective to (moved at (k.takes row)) e }
-
-pub asks_it : (lengths : Lent) (row : List ℕ) (s : State) (k : CallKind) → playable lengths (ahead_of s) row ≡ some k
-    → asks lengths row s ≡ some (k.ask row (next_of (k.takes row) s))
+pub asks_it : (lengths : Lent) (row : List ℕ) (s : State) (k : CallKind) → playable lengths (ahead_of s) row ≡ Some k
+    → asks lengths row s ≡ Some (k.ask row (next_of (k.takes row) s))
 unfolding asks asked_by
 asks_it lengths row s k e = ap (λ (o : Option CallKind). asked_by o row s) e
 
-pub asks_not : (lengths : Lent) (row : List ℕ) (s : State) (at : Amounts) → moved_by (playable lengths (ahead_of s) row) row at ≡ none
-    → asks lengths row s ≡ none
-unfolding asks moved_by asked_by
-asks_not lengths row s at e = by (playable lengths (ahead_of s) row) e
-  where
-    by : (o : Option CallKind) → moved_by o row at ≡ none → asked_by o row s ≡ none
-    by none e = refl
-    by (some k) e = absurd (none-ne-some (moved at (k.takes row)) (sym e))
+pub asks_not : (lengths : Lent) (row : List ℕ) (s : State) → playable lengths (ahead_of s) row ≡ None → asks lengths row s ≡ None
+unfolding asks asked_by
+asks_not lengths row s e = ap (λ (o : Option CallKind). asked_by o row s) e
 
 -- ---- what code finds of a row
 
-pub wanted_some : (r : Wanted) → r.known ≡ true → wanted_by r ≡ some r.size
-wanted_some r e = rw e refl
+pub not_lent : (lengths : Lent) (ahead : Amounts) (row : List ℕ) → fits_in (lent_by row) lengths ≡ false → playable lengths ahead row ≡ None
+unfolding playable
+not_lent lengths ahead row e = rw e
 
-pub wanted_none : (r : Wanted) → r.known ≡ false → wanted_by r ≡ none
-wanted_none r e = rw e refl
-
-pub planned_some : (r : Plan) → r.made ≡ true → planned_by r ≡ some r.to
-planned_some r e = rw e refl
-
-pub planned_none : (r : Plan) → r.made ≡ false → planned_by r ≡ none
-planned_none r e = rw e refl
-
-module _ (lengths : Lent) (ahead : Amounts) (row : List ℕ) (at : Amounts) (lent : Lent) (l : lent ≡ lent_by row) where
-  pub not_lent : fits_in lent lengths ≡ false → none ≡ moved_by (playable lengths ahead row) row at
-  unfolding playable moved_by
-  not_lent e = sym (ap (λ (b : Bool). moved_by (if b then if_enough (call_kind_at kinds (number_at row 0)) row ahead else none) row at) (ap (λ (l
-      : Lent). fits_in l lengths) (sym l) ∙ e))
-
-  -- that the tables are long enough leaves the kind, and what is ahead
-  long_enough : fits_in lent lengths ≡ true → moved_by (if_enough (call_kind_at kinds (number_at row 0)) row ahead) row at
-      ≡ moved_by (playable lengths ahead row) row at
-  unfolding playable
-  long_enough e = sym (ap (λ (b : Bool). moved_by (if b then if_enough (call_kind_at kinds (number_at row 0)) row ahead else none) row at) (ap (λ
-      (l : Lent). fits_in l lengths) (sym l) ∙ e))
-
-  pub no_kind : fits_in lent lengths ≡ true → takes_of (call_kind_at kinds (number_at row 0)) row ≡ none → none
-      ≡ moved_by (playable lengths ahead row) row at
-  unfolding takes_of if_enough moved_by
-  no_kind f e = by (call_kind_at kinds (number_at row 0)) e ∙ long_enough f
-    where
-      by : (o : Option CallKind) → takes_of o row ≡ none → none ≡ moved_by (if_enough o row ahead) row at
-      by none e = refl
-      by (some k) e = absurd (none-ne-some (k.takes row) (sym e))
-
-  pub too_few : fits_in lent lengths ≡ true → (size : Amounts) → takes_of (call_kind_at kinds (number_at row 0)) row ≡ some size
-      → enough size ahead ≡ false
-      → none ≡ moved_by (playable lengths ahead row) row at
-  unfolding takes_of if_enough moved_by
-  too_few f size e g = by (call_kind_at kinds (number_at row 0)) e ∙ long_enough f
-    where
-      by : (o : Option CallKind) → takes_of o row ≡ some size → none ≡ moved_by (if_enough o row ahead) row at
-      by none e = absurd (none-ne-some size e)
-      by (some k) e =
-          let h : enough (k.takes row) ahead ≡ false = ap (λ (z : Amounts). enough z ahead) (some-injective (k.takes row) size e)
-          ∙ g in
-          sym (ap (λ (b : Bool). moved_by (if b then some k else none) row at) h)
-
-  pub goes : fits_in lent lengths ≡ true → (size : Amounts) → takes_of (call_kind_at kinds (number_at row 0)) row ≡ some size → enough size ahead
-      ≡ true
-      → some (moved at size) ≡ moved_by (playable lengths ahead row) row at
-  unfolding takes_of if_enough moved_by
-  goes f size e g = by (call_kind_at kinds (number_at row 0)) e ∙ long_enough f
-    where
-      by : (o : Option CallKind) → takes_of o row ≡ some size → some (moved at size) ≡ moved_by (if_enough o row ahead) row at
-      by none e = absurd (none-ne-some size e)
-      by (some k) e =
-          let q = some-injective (k.takes row) size e in
-          let h : enough (k.takes row) ahead ≡ true = ap (λ (z : Amounts). enough z ahead) q ∙ g in
-          ap (λ (z : Amounts). some (moved at z)) (sym q) ∙ sym (ap (λ (b : Bool). moved_by (if b then some k else none) row at) h)
+-- that the tables are long enough leaves the kind, and what is ahead
+pub is_lent : (lengths : Lent) (ahead : Amounts) (row : List ℕ) → fits_in (lent_by row) lengths ≡ true → (o : Option CallKind)
+    → o ≡ call_kind_at kinds (number_at row 0) → playable lengths ahead row ≡ if_enough o row ahead
+unfolding playable
+is_lent lengths ahead row e o k = rw (e, ← k)
 
 -- ---- the call that is asked for
 
 record Asked (lengths : Lent) (row : List ℕ) (s : State) (ask : RowAsk) : Type 0 where
   pub kind : CallKind
-  pub can : playable lengths (ahead_of s) row ≡ some kind
+  pub can : playable lengths (ahead_of s) row ≡ Some kind
   pub ask_is : kind.ask row (next_of (kind.takes row) s) ≡ ask
 
-asked_is : (lengths : Lent) (row : List ℕ) (s : State) (ask : RowAsk) → asks lengths row s ≡ some ask → Asked lengths row s ask
+asked_is : (lengths : Lent) (row : List ℕ) (s : State) (ask : RowAsk) → asks lengths row s ≡ Some ask → Asked lengths row s ask
 unfolding asks asked_by
 asked_is lengths row s ask e = by (playable lengths (ahead_of s) row) refl e
   where
-    by : (o : Option CallKind) → playable lengths (ahead_of s) row ≡ o → asked_by o row s ≡ some ask → Asked lengths row s ask
-    by none f e = absurd (none-ne-some ask e)
-    by (some k) f e = record { kind = k; can = f; ask_is = some-injective (k.ask row (next_of (k.takes row) s)) ask e }
+    by : (o : Option CallKind) → playable lengths (ahead_of s) row ≡ o → asked_by o row s ≡ Some ask → Asked lengths row s ask
+    by None f e = absurd (none-some ask e)
+    by (Some k) f e = record { kind = k; can = f; ask_is = same_Some (k.ask row (next_of (k.takes row) s)) ask e }
 
 -- ---- what is known of it
 
@@ -197,7 +130,7 @@ pub record SoundState (lengths : Lent) (s : State) : Type 0 where
 abbrev pub is_byte : ℕ → Bool
 is_byte byte = ltb byte 256
 
-pub asked_typed : (lengths : Lent) (row : List ℕ) (s : State) → SoundState lengths s → (ask : RowAsk) → asks lengths row s ≡ some ask
+pub asked_typed : (lengths : Lent) (row : List ℕ) (s : State) → SoundState lengths s → (ask : RowAsk) → asks lengths row s ≡ Some ask
     → Typed (ask_of ask)
 unfolding are_bytes
 asked_typed lengths row s sound ask e =
@@ -209,7 +142,7 @@ asked_typed lengths row s sound ask e =
     (every_take is_byte size.sheets s.sheets.ahead sound.of_bytes))
 
 -- a call is asked for only where it is lent no more than there is
-pub asked_within : (lengths : Lent) (row : List ℕ) (s : State) (ask : RowAsk) → asks lengths row s ≡ some ask → LentWithin (lent_by row) lengths
+pub asked_within : (lengths : Lent) (row : List ℕ) (s : State) (ask : RowAsk) → asks lengths row s ≡ Some ask → LentWithin (lent_by row) lengths
 asked_within lengths row s ask e =
     let a = asked_is lengths row s ask e in
     (playable_is lengths (ahead_of s) row a.kind a.can).within

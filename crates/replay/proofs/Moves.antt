@@ -1,9 +1,8 @@
 -- A row that can be played moves the state on; another leaves it.
 use Prim.Native.Nat.{ℕ, ◌+◌, ◌-◌, ◌≤◌}
 use mathlib.Core.Path.{◌≡◌, refl, sym, ap, subst, ◌∙◌}
-use mathlib.Core.Bool.{false}
-use mathlib.Core.Option.{Option, none, some}
-use mathlib.Core.List.{List, [], ◌∷◌, ◌++◌}
+use Rattle.std.specs.Prelude.{Option, None, Some}
+use mathlib.Core.List.{List, ◌++◌}
 use native.Mathlib.Omega.{arith}
 use lib.IntN.{ℤ}
 use lib.ListN.{length, take, drop, length-drop}
@@ -25,10 +24,10 @@ use Rattle.replay.proofs.Lending.{next_places, so_many, ahead_moved, supply_move
 
 -- as code has it
 abbrev pub stays : Amounts → Turn
-stays at = record { made = false; numbers = 0 ∷ 0 ∷ 0 ∷ 0 ∷ 0 ∷ []; at = at }
+stays at = record { numbers = None; at = at }
 
 pub none_is : (r : Turn) (at : Amounts) → r ≡ stays at → (lent : Lent) (memory : Tables) (pool : List ℤ) (trails sheets : List ℕ) (o :
-    Option RowAsk) → o ≡ none
+    Option RowAsk) → o ≡ None
     → turn_of r memory pool trails sheets ≡ turn_made lent o (state_at memory pool trails sheets at)
 unfolding turn_made
 none_is r at e lent memory pool trails sheets o n = rw (e, n) refl
@@ -57,7 +56,7 @@ made_is : (lent : Lent) (at at' : Amounts) (memory memory' : Tables) (pool : Lis
     lent memory)).beside).trail
     → supply_at at'.sheets sheets' ≡ used (supply_at at.sheets sheets) (taken_by ask).sheet (left_by ask (outcome_on (ask_of ask) (first_places
     lent memory)).beside).sheet
-    → turned (some numbers) (state_at memory' pool trails' sheets' at') ≡ turn_made lent (some ask) (state_at memory pool trails sheets at)
+    → turned (Some numbers) (state_at memory' pool trails' sheets' at') ≡ turn_made lent (Some ask) (state_at memory pool trails sheets at)
 unfolding turn_made state_after
 made_is lent at at' memory memory' pool trails trails' sheets sheets' ask numbers a m p t s = rw (a, m, p, t, s)
 
@@ -74,7 +73,7 @@ module _ (memory : Tables) (pool : List ℤ) (trails sheets : List ℕ) (at : Am
     (inside : AmountsInside at pool trails sheets)
     (row : List ℕ)
     (k : CallKind)
-    (can : playable (lent_of memory) (ahead_of (state_at memory pool trails sheets at)) row ≡ some k) where
+    (can : playable (lent_of memory) (ahead_of (state_at memory pool trails sheets at)) row ≡ Some k) where
   abbrev here : State
   here = state_at memory pool trails sheets at
 
@@ -108,7 +107,7 @@ module _ (memory : Tables) (pool : List ℤ) (trails sheets : List ℕ) (at : Am
       → (amounts_of next ≡ size → called numbers after (taken next.samples trail sheet)
       ≡ called_by (k.ask row next) (first_places (lent_by row) memory))
       → memory' ≡ left after memory → length trail ≡ size.trails → length sheet ≡ size.sheets
-      → turned (some numbers) (state_at memory' pool (put_over at.trails (at.trails + size.trails) trail trails)
+      → turned (Some numbers) (state_at memory' pool (put_over at.trails (at.trails + size.trails) trail trails)
       (put_over at.sheets (at.sheets + size.sheets) sheet sheets) (moved at size))
       ≡ turn_made (lent_by row) (asks (lent_of memory) row here) here
   played_is numbers after memory' trail sheet does m t s =
@@ -139,12 +138,12 @@ module _ (memory : Tables) (pool : List ℤ) (trails sheets : List ℕ) (at : Am
         → (amounts_of next ≡ size → called numbers after (taken next.samples trail sheet)
         ≡ called_by (k.ask row next) (first_places (lent_by row) memory))
         → memory' ≡ left after memory → length trail ≡ size.trails → length sheet ≡ size.sheets
-        → turned (some numbers) (state_at memory' pool (put_over at.trails to.trails trail trails)
+        → turned (Some numbers) (state_at memory' pool (put_over at.trails to.trails trail trails)
         (put_over at.sheets to.sheets sheet
         sheets) to)
         ≡ turn_made (lent_by row) (asks (lent_of memory) row here) here
     played_to numbers after memory' trail sheet does m t s =
-        subst (λ (z : Amounts). turned (some numbers) (state_at memory' pool (put_over at.trails z.trails trail trails)
+        subst (λ (z : Amounts). turned (Some numbers) (state_at memory' pool (put_over at.trails z.trails trail trails)
         (put_over at.sheets z.sheets sheet sheets) z)
         ≡ turn_made (lent_by row) (asks (lent_of memory) row here) here) (sym e)
         (played_is numbers after memory' trail sheet does m t s)

@@ -1,15 +1,14 @@
 -- The kinds of rows: what holds of each, and how a call of one follows its definition.
-use Prim.Native.Nat.{ℕ, zero, suc, ◌≤◌, ◌<◌}
+use Prim.Native.Nat.{ℕ, zero, suc, ◌≤◌}
 use mathlib.Core.Path.{◌≡◌, refl, sym, ap, subst, ◌∙◌}
-use mathlib.Core.Bool.{Bool, true, false}
-use mathlib.Core.Option.{Option, none, some, none-ne-some, some-injective}
+use Rattle.std.specs.Prelude.{None, Some}
+use Rattle.std.proofs.lemmas.Option.{none-some, same_Some}
 use mathlib.Core.List.{List, [], ◌∷◌}
 use native.Mathlib.Omega.{arith}
 use lib.IntN.{ℤ}
 use lib.ListN.{length}
 use lib.Dec.{T}
 use Rattle.integer.specs.Lists.{All, all_none, all_more}
-use Rattle.integer.proofs.Tests.{never_both}
 use Rattle.dstree.specs.Labels.{is_label}
 use Rattle.dstree.specs.Sheet.{are_bytes}
 use Rattle.dstree.specs.Book.{Answer}
@@ -18,10 +17,9 @@ use Rattle.calls.specs.Outcome.{Outcome, outcome}
 use Rattle.calls.specs.Effects.{outcome_on}
 use Rattle.calls.specs.Follows.{Typed}
 use Rattle.replay.specs.declared.Amounts.{Amounts}
-use Rattle.replay.specs.declared.Wanted.{Wanted}
 use Rattle.replay.specs.ReplyRows.{reply_row}
-use Rattle.replay.specs.Script.{own_number, RowAsk, ask_of, amounts, Taken, taken, amounts_of, CallKind, opening_calls, adding_calls, matching_calls, writing_calls}
-use Rattle.replay.specs.Script.{reading_calls, kinds, call_kind_at, takes_of, wanted_by, taken_by, left_by, Called, called, called_by, RepliesTo, Plays}
+use Rattle.replay.specs.Script.{RowAsk, ask_of, amounts, Taken, taken, amounts_of, CallKind, opening_calls, adding_calls, matching_calls, writing_calls}
+use Rattle.replay.specs.Script.{reading_calls, kinds, call_kind_at, taken_by, left_by, called, called_by, RepliesTo}
 
 -- ---- what nothing is taken of is empty
 
@@ -85,93 +83,25 @@ of_readings = record { takes_all = λ row x e. sym (bytes_only x e refl); typed 
 of_kinds : All KindLaws kinds
 of_kinds = all_more of_openings (all_more of_addings (all_more of_matchings (all_more of_writings (all_more of_readings all_none))))
 
-of_some : {P : CallKind → Type 0} (among : List CallKind) → All P among → (number : ℕ) (k : CallKind) → call_kind_at among number ≡ some k
+of_some : {P : CallKind → Type 0} (among : List CallKind) → All P among → (number : ℕ) (k : CallKind) → call_kind_at among number ≡ Some k
     → P k
 unfolding call_kind_at
-of_some [] all number k e = absurd (none-ne-some k e)
-of_some {P} (k₀ ∷ others) (all_more h rest) zero k e = subst P (some-injective k₀ k e) h
+of_some [] all number k e = absurd (none-some k e)
+of_some {P} (k₀ ∷ others) (all_more h rest) zero k e = subst P (same_Some k₀ k e) h
 of_some (k₀ ∷ others) (all_more h rest) (suc number) k e = of_some others rest number k e
 
-pub of_kind : (number : ℕ) (k : CallKind) → call_kind_at kinds number ≡ some k → KindLaws k
+pub of_kind : (number : ℕ) (k : CallKind) → call_kind_at kinds number ≡ Some k → KindLaws k
 of_kind = of_some kinds of_kinds
 
--- ---- kind by kind
-
-kind_is : (k₀ k : CallKind) → some k₀ ≡ some k → k.changes ≡ k₀.changes
-kind_is k₀ k e = ap (λ (k : CallKind). k.changes) (sym (some-injective k₀ k e))
-
-no_change : (number : ℕ) (k : CallKind) → (number ≡ 0 → ⊥) → (number ≡ 1 → ⊥) → (number ≡ 4 → ⊥) → call_kind_at kinds number ≡ some k
-    → k.changes ≡ true → ⊥
+-- behind the last one there is none
+pub no_kind : (number : ℕ) → 5 ≤ number → None ≡ call_kind_at kinds number
 unfolding call_kind_at
-no_change zero k f g h e b = f refl
-no_change (suc zero) k f g h e b = g refl
-no_change (suc (suc zero)) k f g h e b = never_both b (kind_is matching_calls k e)
-no_change (suc (suc (suc zero))) k f g h e b = never_both b (kind_is writing_calls k e)
-no_change (suc (suc (suc (suc zero)))) k f g h e b = h refl
-no_change (suc (suc (suc (suc (suc n))))) k f g h e b = absurd (none-ne-some k e)
-
-pub changes_if : (number : ℕ) (k : CallKind) → (number ≡ 2 → ⊥) → (number ≡ 3 → ⊥) → call_kind_at kinds number ≡ some k → k.changes ≡ true
-unfolding call_kind_at
-changes_if zero k f g e = kind_is opening_calls k e
-changes_if (suc zero) k f g e = kind_is adding_calls k e
-changes_if (suc (suc zero)) k f g e = absurd (f refl)
-changes_if (suc (suc (suc zero))) k f g e = absurd (g refl)
-changes_if (suc (suc (suc (suc zero)))) k f g e = kind_is reading_calls k e
-changes_if (suc (suc (suc (suc (suc n))))) k f g e = absurd (none-ne-some k e)
-
--- the kind with a number
-pub changes_not : (number : ℕ) (k₀ k : CallKind) → call_kind_at kinds number ≡ some k₀ → call_kind_at kinds number ≡ some k
-    → k.changes ≡ k₀.changes
-changes_not number k₀ k i e = kind_is k₀ k (sym i ∙ e)
-
-module _ (number : ℕ) (row : List ℕ) (x : Taken) (t : Tables) (c : Called) where
-  -- a row of the kind with this number
-  pub own_kind : {changes : Bool} (k₀ : CallKind) → call_kind_at kinds number ≡ some k₀ → (amounts_of x ≡ k₀.takes row → c
-      ≡ called_by (k₀.ask row x) t) → Plays changes number row x t c
-  own_kind k₀ i h k e b s = subst (λ (k : CallKind). amounts_of x ≡ k.takes row → c
-      ≡ called_by (k.ask row x) t) (some-injective k₀ k (sym i ∙ e)) h s
-
-  -- there are no other kinds
-  pub no_other_change : (number ≡ 0 → ⊥) → (number ≡ 1 → ⊥) → (number ≡ 4 → ⊥) → Plays true number row x t c
-  no_other_change f g h k e b s = absurd (no_change number k f g h e b)
-
-  pub no_other_ask : (number ≡ 2 → ⊥) → (number ≡ 3 → ⊥) → Plays false number row x t c
-  no_other_ask f g k e b s = absurd (never_both (changes_if number k f g e) b)
-
--- ---- what a row takes
-
-pub wanted_is : (r : Wanted) (row : List ℕ) (number : ℕ) (k : CallKind) (size : Amounts) → r ≡ record { known = true; size = size }
-    → call_kind_at kinds number ≡ some k → size ≡ k.takes row
-    → wanted_by r ≡ takes_of (call_kind_at kinds number) row
-unfolding takes_of
-wanted_is r row number k size e i s = ap (λ (r : Wanted). wanted_by r) e ∙ (ap (λ (z : Amounts). some z) s
-    ∙ sym (ap (λ (o : Option CallKind). takes_of o row) i))
-
--- the kinds that take bytes alone
-bytes_alone : (row : List ℕ) (number : ℕ) → (number ≡ 0 → ⊥) → (number ≡ 1 → ⊥) → (number ≡ 2 → ⊥) → number < 5
-    → some (amounts 0 0 (own_number row 0)) ≡ takes_of (call_kind_at kinds number) row
-unfolding takes_of call_kind_at
-bytes_alone row zero f g h l = absurd (f refl)
-bytes_alone row (suc zero) f g h l = absurd (g refl)
-bytes_alone row (suc (suc zero)) f g h l = absurd (h refl)
-bytes_alone row (suc (suc (suc zero))) f g h l = refl
-bytes_alone row (suc (suc (suc (suc zero)))) f g h l = refl
-bytes_alone row (suc (suc (suc (suc (suc n))))) f g h l = absurd (omega arith)
-
-pub wanted_bytes : (r : Wanted) (row : List ℕ) (number first : ℕ) → r ≡ record { known = true; size = amounts 0 0 first }
-    → first ≡ own_number row 0 → (number ≡ 0 → ⊥) → (number ≡ 1 → ⊥) → (number ≡ 2 → ⊥) → number < 5
-    → wanted_by r ≡ takes_of (call_kind_at kinds number) row
-wanted_bytes r row number first e o f g h l =
-    ap (λ (r : Wanted). wanted_by r) e ∙ (ap (λ (x : ℕ). some (amounts 0 0 x)) o ∙ bytes_alone row number f g h l)
-
-pub wanted_not : (row : List ℕ) (number : ℕ) → 5 ≤ number → none ≡ takes_of (call_kind_at kinds number) row
-unfolding takes_of call_kind_at
-wanted_not row zero l = absurd (omega arith)
-wanted_not row (suc zero) l = absurd (omega arith)
-wanted_not row (suc (suc zero)) l = absurd (omega arith)
-wanted_not row (suc (suc (suc zero))) l = absurd (omega arith)
-wanted_not row (suc (suc (suc (suc zero)))) l = absurd (omega arith)
-wanted_not row (suc (suc (suc (suc (suc n))))) l = refl
+no_kind zero h = absurd (omega arith)
+no_kind (suc zero) h = absurd (omega arith)
+no_kind (suc (suc zero)) h = absurd (omega arith)
+no_kind (suc (suc (suc zero))) h = absurd (omega arith)
+no_kind (suc (suc (suc (suc zero)))) h = absurd (omega arith)
+no_kind (suc (suc (suc (suc (suc n))))) h = refl
 
 -- ---- a call follows its definition
 

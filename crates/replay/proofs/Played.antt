@@ -1,14 +1,12 @@
 -- The loop of `play`: after some rows the lent slices are in the state that these leave, the calls they made ran one after another, and
 -- their replies are laid down.
-use Rattle.std.specs.Prelude.{if◌then◌else◌}
 use Prim.Native.Nat.{ℕ, suc, ◌+◌, ◌≤◌}
 use mathlib.Core.Path.{◌≡◌, refl, sym, ap, subst, ◌∙◌}
-use mathlib.Core.Bool.{Bool, true, false}
-use mathlib.Core.Option.{Option, none, some}
+use Rattle.std.specs.Prelude.{Option, None, Some}
 use mathlib.Core.List.{List, [], ◌∷◌, ◌++◌, foldl}
 use native.Mathlib.Omega.{arith}
 use lib.IntN.{ℤ}
-use lib.ListN.{length, drop, take-append-drop, length-append, drop_of_length-le}
+use lib.ListN.{length, take-append-drop, length-append}
 use lib.Dec.{T}
 use Rattle.dstree.specs.Sheet.{are_bytes}
 use Rattle.dstree.specs.Book.{Lent, Call, call, Answer, Reply}
@@ -21,9 +19,10 @@ use Rattle.replay.specs.Demanded.{Demanded}
 use Rattle.replay.specs.declared.Amounts.{Amounts}
 use Rattle.replay.specs.declared.Turn.{Turn}
 use Rattle.replay.specs.ReplyRows.{reply_row, with_row, replies_laid}
-use Rattle.replay.specs.Script.{RowAsk, ask_of, rows_in, rows_of, lent_by, State, state_at, AmountsInside, amounts, asks, reply_in, state_after, Turned, turned}
+use Rattle.replay.specs.Script.{RowAsk, ask_of, rows_of, lent_by, State, state_at, AmountsInside, amounts, asks, reply_in, state_after, Turned, turned}
 use Rattle.replay.specs.Script.{turn_made, turn_of}
 use Rattle.replay.specs.Script.{Played, begun, played_one, played_row, answers_of, played, whole, tells_row, next_row}
+use Rattle.replay.proofs.ReadBack.{few_rows}
 use Rattle.replay.proofs.Asking.{SoundState, asked_typed, asked_within, sound_after}
 
 -- ---- one call more
@@ -61,57 +60,39 @@ pub record RowsPlayed (t₀ : Tables) (replies₀ : List ℕ) (p : Played) (repl
 
 module _ (t₀ : Tables) (replies₀ : List ℕ) where
   -- by whether the row asks for a call
-  row_fine : (row : List ℕ) (p : Played) (replies : List ℕ) (k : ℕ) (r : Turn) (now' : State) (o : Option RowAsk)
+  row_fine : (row : List ℕ) (p : Played) (replies : List ℕ) (k : ℕ) (told : Option (List ℕ)) (now' : State) (o : Option RowAsk)
       → RowsPlayed t₀ replies₀ p replies k → asks (lent_of t₀) row p.now ≡ o
-      → turned (if r.made then some r.numbers else none) now' ≡ turn_made
-      (lent_by row) o p.now
+      → turned told now' ≡ turn_made (lent_by row) o p.now
       → lent_of now'.memory ≡ lent_of t₀
-      → (now' ≡ (played_one (lent_by row) o p).now) × RowsPlayed t₀ replies₀ (played_one (lent_by row) o p) (tells_row r k replies) (next_row r k)
+      → (now' ≡ (played_one (lent_by row) o p).now) × RowsPlayed t₀ replies₀ (played_one (lent_by row) o p) (tells_row told k replies) (next_row told k)
   unfolding turn_made state_after played_one tells_row next_row
-  row_fine row p replies k r now' none f a e l = by r.made (ap (λ (t : Turned). t.numbers) e)
-    where
-      by : (b : Bool) → (if b then some r.numbers else none) ≡ none
-          → (now' ≡ p.now) × RowsPlayed t₀ replies₀ p (if b then with_row replies k r.numbers else replies) (if b then k + 1 else k)
-      by true n = let z : ◌≡◌ {A = ℕ} 0 1 = cc in absurd (omega arith)
-      by false n = (ap (λ (t : Turned). t.now) e, f)
-  row_fine row p replies k r now' (some ask) f a e l = by r.made (ap (λ (t : Turned). t.numbers) e)
-    where
-      c : Call
-      c = call (lent_by row) (ask_of ask)
-
-      moved : now' ≡ state_after (lent_by row) ask p.now
-      moved = ap (λ (t : Turned). t.now) e
-
-      long : lent_of (state_after (lent_by row) ask p.now).memory ≡ lent_of t₀
-      long = ap (λ (s : State). lent_of s.memory) (sym moved) ∙ l
-
-      follows : Follows c p.now.memory (reply_in c p.now.memory) (state_after (lent_by row) ask p.now).memory
-      follows = record {
+  row_fine row p replies k told now' None f a e l =
+      let none : told ≡ None = ap (λ (t : Turned). t.numbers) e in
+      (ap (λ (t : Turned). t.now) e, rw none f)
+  row_fine row p replies k told now' (Some ask) f a e l =
+      let c : Call = call (lent_by row) (ask_of ask) in
+      let said = reply_in c p.now.memory in
+      let row_told : told ≡ Some (reply_row said.answer) = ap (λ (t : Turned). t.numbers) e in
+      let moved : now' ≡ state_after (lent_by row) ask p.now = ap (λ (t : Turned). t.now) e in
+      let long : lent_of (state_after (lent_by row) ask p.now).memory ≡ lent_of t₀ = ap (λ (s : State). lent_of s.memory) (sym moved) ∙ l in
+      let follows : Follows c p.now.memory said (state_after (lent_by row) ask p.now).memory = record {
         has_places = first_lent (lent_by row) p.now.memory
             (subst (λ (x : Lent). LentWithin (lent_by row) x) (sym f.sound.as_long) (asked_within (lent_of t₀) row p.now ask a));
         typed = asked_typed (lent_of t₀) row p.now f.sound ask a;
         follows = refl;
-      }
-
-      by : (b : Bool) → (if b then some r.numbers else none) ≡ some (reply_row (reply_in c p.now.memory).answer)
-          → (now' ≡ state_after (lent_by row) ask p.now) × RowsPlayed t₀ replies₀ (played_one (lent_by row) (some ask) p) (if b then with_row replies k
-          r.numbers else replies) (if b then k + 1 else k)
-      by false n = let z : ◌≡◌ {A = ℕ} 0 1 = cc in absurd (omega arith)
-      by true n =
-          let numbers : r.numbers ≡ reply_row (reply_in c p.now.memory).answer = cc in
-          let so_many : 0 + length (answers_of p.said) ≡ length p.said = omega (arith, answers_length p.said) in (
-            moved,
-            record {
-              ran = ran_more f.ran follows;
-              sound = sound_after (lent_of t₀) p.now f.sound (lent_by row) ask long;
-              counted = omega (arith, f.counted, length-append p.said (reply_in c p.now.memory ∷ []));
-              laid =
-                  rw (numbers, f.laid, f.counted, answers_more p.said (reply_in c p.now.memory))
-                  (sym (laid_more (answers_of p.said) (reply_in c p.now.memory).answer 0 replies₀
-                  ∙ ap (λ (j : ℕ). with_row (replies_laid (answers_of p.said) 0 replies₀) j (reply_row (reply_in c
-                  p.now.memory).answer)) so_many));
-            },
-          )
+      } in
+      let so_many : 0 + length (answers_of p.said) ≡ length p.said = omega (arith, answers_length p.said) in (
+        moved,
+        rw row_told (record {
+          ran = ran_more f.ran follows;
+          sound = sound_after (lent_of t₀) p.now f.sound (lent_by row) ask long;
+          counted = omega (arith, f.counted, length-append p.said (said ∷ []));
+          laid =
+              rw (f.laid, f.counted, answers_more p.said said)
+              (sym (laid_more (answers_of p.said) said.answer 0 replies₀
+              ∙ ap (λ (j : ℕ). with_row (replies_laid (answers_of p.said) 0 replies₀) j (reply_row said.answer)) so_many));
+        }),
+      )
 
 -- ---- the loop
 
@@ -119,16 +100,16 @@ module _ (t₀ : Tables) (script : List ℕ) (pool : List ℤ) (trails₀ sheets
   abbrev end : Played
   end = played t₀ script pool trails₀ sheets₀
 
-  -- the rows up to a place are played, and k replies are laid down
-  pub record Playing (t : Tables) (trails sheets replies : List ℕ) (at : Amounts) (place k : ℕ) : Type 0 where
+  -- all rows but these are played, and k replies are laid down
+  pub record Playing (t : Tables) (trails sheets replies : List ℕ) (at : Amounts) (rows : List (List ℕ)) (k : ℕ) : Type 0 where
     pub so_far : Played
     pub state_is : state_at t pool trails sheets at ≡ so_far.now
     pub fine : RowsPlayed t₀ replies₀ so_far replies k
-    pub onward : foldl (played_row (lent_of t₀)) so_far (rows_of (drop place script)) ≡ end
+    pub onward : foldl (played_row (lent_of t₀)) so_far rows ≡ end
     pub inside : AmountsInside at pool trails sheets
-    pub few : k ≤ place
+    pub few : k + length rows ≤ length script
 
-  pub playing_first : T (are_bytes sheets₀) → Playing t₀ trails₀ sheets₀ replies₀ (amounts 0 0 0) 0 0
+  pub playing_first : T (are_bytes sheets₀) → Playing t₀ trails₀ sheets₀ replies₀ (amounts 0 0 0) (rows_of script) 0
   unfolding replies_laid
   playing_first b = record {
     so_far = begun t₀ pool trails₀ sheets₀;
@@ -136,29 +117,26 @@ module _ (t₀ : Tables) (script : List ℕ) (pool : List ℤ) (trails₀ sheets
     fine = record { ran = no_call; sound = record { as_long = refl; of_bytes = b }; counted = refl; laid = refl };
     onward = refl;
     inside = record { samples_inside_lem = omega arith; trails_inside = omega arith; sheets_inside = omega arith };
-    few = omega arith;
+    few = omega (arith, few_rows (length script) script);
   }
 
-  few_more : (r : Turn) (k place to : ℕ) → k ≤ place → place + 1 ≤ to → next_row r k ≤ to
+  few_more : (told : Option (List ℕ)) (k left most : ℕ) → k + suc left ≤ most → next_row told k + left ≤ most
   unfolding next_row
-  few_more r k place to h i = by r.made
-    where
-      by : (b : Bool) → (if b then k + 1 else k) ≤ to
-      by true = omega arith
-      by false = omega arith
+  few_more None k left most h = omega arith
+  few_more (Some row) k left most h = omega arith
 
   -- a row that a turn has played
-  pub playing_on : {t t' : Tables} {trails trails' sheets sheets' replies : List ℕ} {at : Amounts} {place k : ℕ} (r : Turn)
-      (row : List ℕ) (to : ℕ)
-      → Playing t trails sheets replies at place k → lent_of t ≡ lent_of t₀ → lent_of t' ≡ lent_of t₀
-      → rows_of (drop place script) ≡ row ∷ rows_of (drop to script) → place + 1 ≤ to
+  pub playing_on : {t t' : Tables} {trails trails' sheets sheets' replies : List ℕ} {at : Amounts} {rows : List (List ℕ)} {k : ℕ} (r : Turn)
+      (row : List ℕ) (rest : List (List ℕ))
+      → Playing t trails sheets replies at rows k → lent_of t ≡ lent_of t₀ → lent_of t' ≡ lent_of t₀
+      → rows ≡ row ∷ rest
       → turn_of r t' pool trails' sheets' ≡ turn_made (lent_by row) (asks (lent_of t) row (state_at t pool trails sheets at))
       (state_at t pool trails sheets at)
       → AmountsInside r.at pool trails sheets → length trails' ≡ length trails → length sheets' ≡ length sheets
-      → (replies' : List ℕ) (k' : ℕ) → replies' ≡ tells_row r k replies → k' ≡ next_row r k → Playing t' trails' sheets' replies'
-      r.at to k'
+      → (replies' : List ℕ) (k' : ℕ) → replies' ≡ tells_row r.numbers k replies → k' ≡ next_row r.numbers k → Playing t' trails' sheets' replies'
+      r.at rest k'
   unfolding played_row
-  playing_on {t} {t'} {trails} {trails'} {sheets} {sheets'} {replies} {at} {place} {k} r row to h l l' next more e
+  playing_on {t} {t'} {trails} {trails'} {sheets} {sheets'} {replies} {at} {rows} {k} r row rest h l l' next e
       i m n replies' k' q u =
       let p = h.so_far in
       let asked : turn_of r t' pool trails' sheets' ≡ turn_made (lent_by row) (asks (lent_of t₀) row p.now) p.now =
@@ -166,29 +144,28 @@ module _ (t₀ : Tables) (script : List ℕ) (pool : List ℤ) (trails₀ sheets
       ∙ (ap (λ (x : Lent). turn_made (lent_by row) (asks x row (state_at t pool trails sheets at))
       (state_at t pool trails sheets at)) l
       ∙ ap (λ (x : State). turn_made (lent_by row) (asks (lent_of t₀) row x) x) h.state_is) in
-      let g = row_fine t₀ replies₀ row p replies k r (state_at t' pool trails' sheets' r.at) (asks (lent_of t₀) row p.now)
+      let g = row_fine t₀ replies₀ row p replies k r.numbers (state_at t' pool trails' sheets' r.at) (asks (lent_of t₀) row p.now)
       h.fine refl asked l' in
       record {
         so_far = played_row (lent_of t₀) p row;
         state_is = g.0;
         fine = subst (λ (l : List ℕ). RowsPlayed t₀ replies₀ (played_row (lent_of t₀) p row) l k') (sym q)
-            (subst (λ (j : ℕ). RowsPlayed t₀ replies₀ (played_row (lent_of t₀) p row) (tells_row r k replies) j) (sym u) g.1);
-        onward = ap (λ (rows : List (List ℕ)). foldl (played_row (lent_of t₀)) p rows) (sym next) ∙ h.onward;
+            (subst (λ (j : ℕ). RowsPlayed t₀ replies₀ (played_row (lent_of t₀) p row) (tells_row r.numbers k replies) j) (sym u) g.1);
+        onward = ap (λ (l : List (List ℕ)). foldl (played_row (lent_of t₀)) p l) (sym next) ∙ h.onward;
         inside = record {
           samples_inside_lem = i.samples_inside_lem;
           trails_inside = subst (λ (x : ℕ). r.at.trails ≤ x) (sym m) i.trails_inside;
           sheets_inside = subst (λ (x : ℕ). r.at.sheets ≤ x) (sym n) i.sheets_inside;
         };
-        few = subst (λ (j : ℕ). j ≤ to) (sym u) (few_more r k place to h.few more);
+        few = subst (λ (j : ℕ). j + length rest ≤ length script) (sym u)
+            (few_more r.numbers k (length rest) (length script) (omega (arith, h.few, ap length next)));
       }
 
   -- when every row is played
-  module _ {t : Tables} {trails sheets replies : List ℕ} {at : Amounts} {place k : ℕ} (h : Playing t trails sheets replies at
-      place k) (all : length script ≤ place) where
+  module _ {t : Tables} {trails sheets replies : List ℕ} {at : Amounts} {rows : List (List ℕ)} {k : ℕ}
+      (h : Playing t trails sheets replies at rows k) (all : rows ≡ []) where
     at_end : h.so_far ≡ end
-    unfolding rows_in
-    at_end = ap (λ (l : List ℕ). foldl (played_row (lent_of t₀)) h.so_far (rows_of l)) (sym (drop_of_length-le script {i = place} all)) ∙
-        h.onward
+    at_end = ap (λ (l : List (List ℕ)). foldl (played_row (lent_of t₀)) h.so_far l) (sym all) ∙ h.onward
 
     state_then : state_at t pool trails sheets at ≡ end.now
     state_then = h.state_is ∙ ap (λ (p : Played). p.now) at_end

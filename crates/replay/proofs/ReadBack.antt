@@ -1,11 +1,11 @@
 -- A script row by row: the next row and the rest; and rows written one behind another, each behind its length, are read back as these rows.
-use Prim.Native.Nat.{ℕ, zero, suc, ◌+◌, ◌-◌, ◌≤◌, ◌<◌}
+use Prim.Native.Nat.{ℕ, zero, suc, min, ◌≤◌}
 use mathlib.Core.Path.{◌≡◌, refl, sym, ap, ap₂, ◌∙◌}
 use mathlib.Core.List.{List, [], ◌∷◌, ◌++◌}
 use native.Mathlib.Omega.{arith}
-use native.Mathlib.Numerals.{add-one}
-use lib.ListN.{length, get_or, take, drop, length-append, length-drop, drop_of_length-le}
-use lib.Seq.{take-append_seam, drop-append_seam, drop-cons, drop-drop, drop-length, take_all}
+use lib.ListN.{length, take, drop, length-append, length-drop}
+use lib.Seq.{take-append_seam, drop-append_seam}
+use Rattle.std.proofs.lemmas.List.{take_min, drop_min}
 use Rattle.replay.specs.Script.{rows_in, rows_of}
 
 -- ---- the next row
@@ -23,37 +23,32 @@ enough_fuel (suc f) (suc g) (size ∷ rest) h k =
     ap (λ (rows : List (List ℕ)). take size rest ∷ rows)
     (enough_fuel f g (drop size rest) (omega (arith, h, length-drop size rest)) (omega (arith, k, length-drop size rest)))
 
-next_row : (size : ℕ) (rest : List ℕ) → rows_of (size ∷ rest) ≡ take size rest ∷ rows_of (drop size rest)
+pub next_row : (size : ℕ) (rest : List ℕ) → rows_of (size ∷ rest) ≡ take size rest ∷ rows_of (drop size rest)
 unfolding rows_in
 next_row size rest =
     ap (λ (rows : List (List ℕ)). take size rest ∷ rows)
     (enough_fuel (length rest) (length (drop size rest)) (drop size rest) (omega (arith, length-drop size rest)) (omega arith))
 
--- the row whose length stands at a place ends at r, and there the next one begins
-module _ (script : List ℕ) (place : ℕ) (inside : place < length script) where
-  abbrev size : ℕ
-  size = get_or script place 0
+pub no_row : (l : List ℕ) → length l ≡ 0 → rows_of l ≡ []
+unfolding rows_in
+no_row [] e = refl
+no_row (x ∷ l) e = absurd (omega arith)
 
-  row_from : (part rest : List ℕ) → part ≡ take size (drop (place + 1) script) → rest ≡ drop size (drop (place + 1) script)
-      → rows_of (drop place script) ≡ part ∷ rows_of rest
-  row_from part rest p q =
-      let here : drop place script ≡ size ∷ drop (place + 1) script = rw (add-one place) (drop-cons script place 0 inside) in
-      ap rows_of here ∙ (next_row size (drop (place + 1) script) ∙ ap₂ (λ (r : List ℕ) (l : List ℕ). r ∷ rows_of l) (sym p) (sym q))
+-- .. as code takes it: to the script's end, if it says that it is longer
+pub first_row : (l : List ℕ) (size : ℕ) (rest row others : List ℕ) (n : ℕ) → l ≡ size ∷ rest → n ≡ min size (length rest)
+    → row ≡ take n rest → others ≡ drop n rest → rows_of l ≡ row ∷ rows_of others
+first_row l size rest row others n e m p q =
+    ap rows_of e
+    ∙ (next_row size rest
+    ∙ ap₂ (λ (r : List ℕ) (s : List ℕ). r ∷ rows_of s)
+    (sym (p ∙ (ap (λ (k : ℕ). take k rest) m ∙ take_min size rest))) (sym (q ∙ (ap (λ (k : ℕ). drop k rest) m ∙ drop_min size rest))))
 
-  pub whole_row : size ≤ length script - (place + 1)
-      → rows_of (drop place script) ≡ take (place + 1 + size - (place + 1)) (drop (place + 1) script) ∷ rows_of (drop (place + 1 + size) script)
-  whole_row h =
-      let e : place + 1 + size - (place + 1) ≡ size = omega arith in
-      row_from _ _ (ap (λ (k : ℕ). take k (drop (place + 1) script)) e) (sym (drop-drop size (place + 1) script))
-
-  pub last_row : length script - (place + 1) < size
-      → rows_of (drop place script) ≡ take (length script - (place + 1)) (drop (place + 1) script) ∷ rows_of (drop (length script) script)
-  last_row h =
-      let left : List ℕ = drop (place + 1) script in
-      let many : length left ≡ length script - (place + 1) = length-drop (place + 1) script in
-      row_from _ _
-      (take_all (length script - (place + 1)) left (omega (arith, many)) ∙ sym (take_all size left (omega (arith, many, h))))
-      (drop-length script ∙ sym (drop_of_length-le left {i = size} (omega (arith, many, h))))
+-- no more rows than numbers
+pub few_rows : (fuel : ℕ) (l : List ℕ) → length (rows_in fuel l) ≤ fuel
+unfolding rows_in
+few_rows zero l = omega arith
+few_rows (suc fuel) [] = omega arith
+few_rows (suc fuel) (size ∷ rest) = omega (arith, few_rows fuel (drop size rest))
 
 -- ---- rows written and read
 

@@ -6,7 +6,7 @@ use native.Mathlib.Nat.{lt_of_le_of_lt}
 use native.Mathlib.Omega.{arith}
 use mathlib.Core.Path.{◌≡◌, refl, sym, ap, ◌∙◌}
 use mathlib.Core.Bool.{Bool, true}
-use mathlib.Core.Option.{Option, none, some}
+use Rattle.std.specs.Prelude.{Option, None, Some}
 use mathlib.Core.List.{List, [], ◌∷◌, ◌++◌, map, foldl, append_assoc, append-nil}
 use lib.IntN.{ℤ}
 use lib.ListN.{length, take, drop, length-append}
@@ -39,7 +39,7 @@ record Row (ask : RowAsk) : Type 0 where
   pub number : ℕ
   pub own : List ℕ
   pub kind : CallKind
-  pub is_kind : call_kind_at kinds number ≡ some kind
+  pub is_kind : call_kind_at kinds number ≡ Some kind
   pub takes_that : (lent : Lent) → kind.takes (number ∷ lengths_and lent own) ≡ amounts_of (taken_by ask)
   pub asks_that : (lent : Lent) → kind.ask (number ∷ lengths_and lent own) (taken_by ask) ≡ ask
   pub short : length own < 2 ^ 63
@@ -204,24 +204,24 @@ module _ (lent lengths : Lent) (w : LentWithin lent lengths) (s : State) (pool :
     the_next x.sheet sheets s.sheets.ahead n.sheet_next,
   ) refl
 
-  is_playable : playable lengths (ahead_of s) (row_by lent ask) ≡ some (row_for ask).kind
+  is_playable : playable lengths (ahead_of s) (row_by lent ask) ≡ Some (row_for ask).kind
   unfolding playable if_enough row_by lengths_and
   is_playable =
       let row = row_for ask in
       let numbers = row.number ∷ lengths_and lent row.own in
-      ap (λ (b : Bool). if b then if_enough (call_kind_at kinds row.number) numbers (ahead_of s) else none) (within_fits lent lengths w)
+      ap (λ (b : Bool). if b then if_enough (call_kind_at kinds row.number) numbers (ahead_of s) else None) (within_fits lent lengths w)
       ∙ (ap (λ (o : Option CallKind). if_enough o numbers (ahead_of s)) row.is_kind
-      ∙ (ap (λ (size : Amounts). if enough size (ahead_of s) then some row.kind else none) (row.takes_that lent)
-      ∙ ap (λ (b : Bool). if b then some row.kind else none) there_all))
+      ∙ (ap (λ (size : Amounts). if enough size (ahead_of s) then Some row.kind else None) (row.takes_that lent)
+      ∙ ap (λ (b : Bool). if b then Some row.kind else None) there_all))
 
-  asks_it : asks lengths (row_by lent ask) s ≡ some ask
+  asks_it : asks lengths (row_by lent ask) s ≡ Some ask
   unfolding asks asked_by row_by
   asks_it =
       let row = row_for ask in
       let numbers = row_by lent ask in
-      let can : playable lengths (ahead_of s) numbers ≡ some row.kind = is_playable in
+      let can : playable lengths (ahead_of s) numbers ≡ Some row.kind = is_playable in
       ap (λ (o : Option CallKind). asked_by o numbers s) can
-      ∙ ap (λ (a : RowAsk). some a)
+      ∙ ap (λ (a : RowAsk). Some a)
       (ap (λ (size : Amounts). row.kind.ask numbers (next_of size s)) (row.takes_that lent)
       ∙ (ap (λ (y : Taken). row.kind.ask numbers y) the_next_all ∙ row.asks_that lent))
 
@@ -237,12 +237,12 @@ module _ (lent lengths : Lent) (w : LentWithin lent lengths) (s : State) (pool :
 -- ---- all calls
 
 -- a row that asks for a call is that call, played
-row_played : (lengths : Lent) (c : ListCall) (p : Played) → asks lengths (row_of c) p.now ≡ some c.ask → played_row lengths p (row_of c)
-    ≡ played_one c.lent (some c.ask) p
+row_played : (lengths : Lent) (c : ListCall) (p : Played) → asks lengths (row_of c) p.now ≡ Some c.ask → played_row lengths p (row_of c)
+    ≡ played_one c.lent (Some c.ask) p
 unfolding played_row
 row_played lengths c p e =
     ap (λ (o : Option RowAsk). played_one (lent_by (row_of c)) o p) e
-    ∙ ap (λ (l : Lent). played_one l (some c.ask) p) (lent_by_lem c.lent c.ask)
+    ∙ ap (λ (l : Lent). played_one l (Some c.ask) p) (lent_by_lem c.lent c.ask)
 
 asks_all : (lengths : Lent) (calls : List ListCall) (p : Played) → All (Possible lengths) calls
     → p.now.samples ≡ behind samples_of calls → p.now.trails.ahead ≡ behind trail_of calls → p.now.sheets.ahead
@@ -259,7 +259,7 @@ asks_all lengths (q ∷ calls) p (all_more h others) a b c =
     let asked = asks_it q.lent lengths h.within p.now (behind samples_of calls) (behind trail_of calls) (behind sheet_of calls) q.ask next in
     let rest = leaves_rest q.lent lengths h.within p.now (behind samples_of calls) (behind trail_of calls) (behind sheet_of calls) q.ask next in
     ap (λ (x : Played). (foldl (played_row lengths) x (map row_of calls)).asked) (row_played lengths q p asked)
-    ∙ (asks_all lengths calls (played_one q.lent (some q.ask) p) others rest.0 rest.1 rest.2
+    ∙ (asks_all lengths calls (played_one q.lent (Some q.ask) p) others rest.0 rest.1 rest.2
     ∙ append_assoc p.asked (call_of q ∷ []) (map call_of calls))
 
 -- ---- what the slices hold

@@ -1,7 +1,7 @@
 -- A script: calls one behind another, each a row of numbers, with the samples, trails and sheets that they are lent. What a script asks for
 -- never depends on what was answered.
-use Rattle.std.specs.Prelude.{ℕ, zero, suc, ◌+◌, ◌≤◌, ◌≡◌, Bool, true, false, ◌&&◌, ℤ, length, get_or, take, drop, leb, if◌then◌else◌}
-use Rattle.std.proofs.Math.Option.{Option, none, some}
+use Rattle.std.specs.Prelude.{ℕ, zero, suc, ◌+◌, ◌≤◌, ◌≡◌, Bool, ◌&&◌, ℤ, Option, None, Some, Result, Ok, Err}
+use Rattle.std.specs.Prelude.{length, get_or, take, drop, leb, if◌then◌else◌, codes}
 use mathlib.Core.List.{List, [], ◌∷◌, ◌++◌, map, foldl}
 use Rattle.dstree.specs.Measures.{Measures, Trace, measures}
 use Rattle.dstree.specs.Labels.{no_label}
@@ -10,11 +10,12 @@ use Rattle.tables.specs.Tables.{Tables, lent_of}
 use Rattle.calls.specs.Effects.{outcome_on}
 use Rattle.calls.specs.Follows.{outcome_in}
 use Rattle.replay.specs.ReplyRows.{reply_row, with_row}
-use Rattle.replay.specs.declared.Lengths.{Lengths}
+use Rattle.replay.specs.declared.rows.Rows.{Rows}
 use Rattle.replay.specs.declared.Amounts.{Amounts}
 use Rattle.replay.specs.declared.Turn.{Turn}
-use Rattle.replay.specs.declared.Wanted.{Wanted}
 use Rattle.replay.specs.declared.Plan.{Plan}
+use Rattle.replay.specs.declared.kinds.RowKind.{RowKind}
+use Rattle.replay.specs.declared.kinds.RowKind.TheVariants as r
 
 -- ---- rows
 
@@ -27,6 +28,10 @@ rows_in (suc fuel) (size ∷ rest) = take size rest ∷ rows_in fuel (drop size 
 -- every row takes a number at least, so that the script's length is fuel enough
 abbrev pub rows_of : List ℕ → List (List ℕ)
 rows_of script = rows_in (length script) script
+
+-- the rows that are left, as code goes over them
+abbrev pub rows_left : Rows → List (List ℕ)
+rows_left rows = rows_of rows.0.now
 
 -- a row's numbers, 0 where it has none: which call, the lengths of the six tables that it is lent, then the call's own
 abbrev pub number_at : List ℕ → ℕ → ℕ
@@ -41,10 +46,6 @@ lent_by row = record {
   work = number_at row 5;
   labels = number_at row 6;
 }
-
--- the lengths as code has them
-abbrev pub lengths_by : Lengths → Lent
-lengths_by l = record { control = l.control; samples = l.samples; nodes = l.nodes; links = l.links; work = l.work; labels = l.labels }
 
 abbrev pub own_place : ℕ
 own_place = 7
@@ -135,49 +136,65 @@ ahead_of s = amounts (length s.samples) (length s.trails.ahead) (length s.sheets
 
 -- ---- the kinds of rows
 
--- whether its calls change tables (and not search work alone); how much a row of this kind takes, by its numbers; and the call that it
--- makes of that
+-- how much a row of this kind takes, by its numbers, and the call that it makes of that
 pub record CallKind : Type 0 where
-  pub changes : Bool
   pub takes : List ℕ → Amounts
   pub ask : List ℕ → Taken → RowAsk
 
 -- an opening, of n, capacity and leaf size
 abbrev pub opening_calls : CallKind
 opening_calls = record {
-  changes = true;
   takes = λ row. amounts 0 0 0;
   ask = λ row x. an_opening (measures (own_number row 0) (own_number row 1) (own_number row 2));
 }
 
 -- an adding of the next so many samples
 abbrev pub adding_calls : CallKind
-adding_calls = record { changes = true; takes = λ row. amounts (own_number row 0) 0 0; ask = λ row x. an_adding x.samples }
+adding_calls = record { takes = λ row. amounts (own_number row 0) 0 0; ask = λ row x. an_adding x.samples }
 
 -- a match of the next so many samples, with a trail of the next so many places
 abbrev pub matching_calls : CallKind
 matching_calls = record {
-  changes = false;
   takes = λ row. amounts (own_number row 0) (own_number row 1) 0;
   ask = λ row x. a_matching x.samples x.trail;
 }
 
 -- a writing to a sheet of the next so many bytes
 abbrev pub writing_calls : CallKind
-writing_calls = record { changes = false; takes = λ row. amounts 0 0 (own_number row 0); ask = λ row x. a_writing x.sheet }
+writing_calls = record { takes = λ row. amounts 0 0 (own_number row 0); ask = λ row x. a_writing x.sheet }
 
 -- a reading of a sheet of the next so many bytes
 abbrev pub reading_calls : CallKind
-reading_calls = record { changes = true; takes = λ row. amounts 0 0 (own_number row 0); ask = λ row x. a_reading x.sheet }
+reading_calls = record { takes = λ row. amounts 0 0 (own_number row 0); ask = λ row x. a_reading x.sheet }
 
 -- a row's first number is its kind's place here
 abbrev pub kinds : List CallKind
 kinds = opening_calls ∷ adding_calls ∷ matching_calls ∷ writing_calls ∷ reading_calls ∷ []
 
 unfoldable pub call_kind_at : List CallKind → ℕ → Option CallKind
-call_kind_at [] n = none
-call_kind_at (k ∷ others) zero = some k
+call_kind_at [] n = None
+call_kind_at (k ∷ others) zero = Some k
 call_kind_at (k ∷ others) (suc n) = call_kind_at others n
+
+-- the kinds as code has them, and which one a number was found to be
+unfoldable pub kind_by : RowKind → CallKind
+kind_by r.Opening = opening_calls
+kind_by r.Adding = adding_calls
+kind_by r.Matching = matching_calls
+kind_by r.Writing = writing_calls
+kind_by r.Reading = reading_calls
+
+unfoldable pub kind_found : Result RowKind ℕ → Option CallKind
+kind_found (Ok kind) = Some (kind_by kind)
+kind_found (Err number) = None
+
+-- what is printed of a kind
+unfoldable pub kind_name : RowKind → List ℕ
+kind_name r.Opening = codes "opening"
+kind_name r.Adding = codes "adding"
+kind_name r.Matching = codes "match"
+kind_name r.Writing = codes "writing"
+kind_name r.Reading = codes "reading"
 
 -- ---- the call that a row asks for
 
@@ -198,22 +215,18 @@ enough size ahead =
     && leb size.trails ahead.trails
     && leb size.sheets ahead.sheets
 
--- what a row takes that is of this kind, if there is as much
-unfoldable pub takes_of : Option CallKind → List ℕ → Option Amounts
-takes_of none row = none
-takes_of (some k) row = some (k.takes row)
-
+-- a kind whose rows take no more than is ahead
 unfoldable pub if_enough : Option CallKind → List ℕ → Amounts → Option CallKind
-if_enough none row ahead = none
-if_enough (some k) row ahead = if enough (k.takes row) ahead then some k else none
+if_enough None row ahead = None
+if_enough (Some k) row ahead = if enough (k.takes row) ahead then Some k else None
 
 -- the kind of a row that can be played. A row of no kind cannot, nor one that lends more than there is or takes more than is ahead
 unfoldable pub playable : Lent → Amounts → List ℕ → Option CallKind
-playable lengths ahead row = if fits_in (lent_by row) lengths then if_enough (call_kind_at kinds (number_at row 0)) row ahead else none
+playable lengths ahead row = if fits_in (lent_by row) lengths then if_enough (call_kind_at kinds (number_at row 0)) row ahead else None
 
 unfoldable pub asked_by : Option CallKind → List ℕ → State → Option RowAsk
-asked_by none row s = none
-asked_by (some k) row s = some (k.ask row (next_of (k.takes row) s))
+asked_by None row s = None
+asked_by (Some k) row s = Some (k.ask row (next_of (k.takes row) s))
 
 unfoldable pub asks : Lent → List ℕ → State → Option RowAsk
 asks lengths row s = asked_by (playable lengths (ahead_of s) row) row s
@@ -222,16 +235,10 @@ asks lengths row s = asked_by (playable lengths (ahead_of s) row) row s
 abbrev pub moved : Amounts → Amounts → Amounts
 moved at size = amounts (at.samples + size.samples) (at.trails + size.trails) (at.sheets + size.sheets)
 
-unfoldable pub moved_by : Option CallKind → List ℕ → Amounts → Option Amounts
-moved_by none row at = none
-moved_by (some k) row at = some (moved at (k.takes row))
-
--- .. as code has it
-abbrev pub wanted_by : Wanted → Option Amounts
-wanted_by r = if r.known then some r.size else none
-
-abbrev pub planned_by : Plan → Option Amounts
-planned_by r = if r.made then some r.to else none
+-- .. as code plans it: a row of this kind can be played, and so much is taken behind it
+pub record Planned (lengths : Lent) (ahead : Amounts) (row : List ℕ) (at : Amounts) (plan : Plan) : Type 0 where
+  pub can : playable lengths ahead row ≡ Some (kind_by plan.kind)
+  pub to_is : plan.to ≡ moved at ((kind_by plan.kind).takes row)
 
 -- ---- what a call leaves
 
@@ -286,10 +293,9 @@ RepliesTo ask t numbers after beside =
     let o = outcome_on (ask_of ask) t in
     (numbers ≡ reply_row o.answer) × (after ≡ o.after) × (beside ≡ o.beside)
 
--- .. as a row makes it that has this number, and whose kind changes tables or does not
-abbrev pub Plays : Bool → ℕ → List ℕ → Taken → Tables → Called → Type 0
-Plays changes number row x t c = (k : CallKind) → call_kind_at kinds number ≡ some k → k.changes ≡ changes → amounts_of x ≡ k.takes row → c
-    ≡ called_by (k.ask row x) t
+-- .. as a row of this kind makes it
+abbrev pub Plays : RowKind → List ℕ → Taken → Tables → Called → Type 0
+Plays kind row x t c = amounts_of x ≡ (kind_by kind).takes row → c ≡ called_by ((kind_by kind).ask row x) t
 
 -- a row that is played: the numbers of the call's reply, if a call is made, and the state after it
 pub record Turned : Type 0 where
@@ -300,21 +306,23 @@ abbrev pub turned : Option (List ℕ) → State → Turned
 turned numbers s = record { numbers = numbers; now = s }
 
 unfoldable pub turn_made : Lent → Option RowAsk → State → Turned
-turn_made lent none s = turned none s
-turn_made lent (some ask) s =
-    turned (some (reply_row (outcome_in (call lent (ask_of ask)) s.memory).answer)) (state_after lent ask s)
+turn_made lent None s = turned None s
+turn_made lent (Some ask) s =
+    turned (Some (reply_row (outcome_in (call lent (ask_of ask)) s.memory).answer)) (state_after lent ask s)
 
 -- .. as code has it: a row's outcome, and what the lent slices hold then
 abbrev pub turn_of : Turn → Tables → List ℤ → List ℕ → List ℕ → Turned
 turn_of r memory pool trails sheets =
-    turned (if r.made then some r.numbers else none) (state_at memory pool trails sheets r.at)
+    turned r.numbers (state_at memory pool trails sheets r.at)
 
 -- .. and what it does to row k of the replies, and to the number of replies
-unfoldable pub tells_row : Turn → ℕ → List ℕ → List ℕ
-tells_row r k replies = if r.made then with_row replies k r.numbers else replies
+unfoldable pub tells_row : Option (List ℕ) → ℕ → List ℕ → List ℕ
+tells_row None k replies = replies
+tells_row (Some row) k replies = with_row replies k row
 
-unfoldable pub next_row : Turn → ℕ → ℕ
-next_row r k = if r.made then k + 1 else k
+unfoldable pub next_row : Option (List ℕ) → ℕ → ℕ
+next_row None k = k
+next_row (Some row) k = k + 1
 
 -- ---- a script that is played
 
@@ -331,8 +339,8 @@ begun memory pool trails sheets = record {
 }
 
 unfoldable pub played_one : Lent → Option RowAsk → Played → Played
-played_one lent none p = p
-played_one lent (some ask) p =
+played_one lent None p = p
+played_one lent (Some ask) p =
     let c = call lent (ask_of ask) in
     record { asked = p.asked ++ (c ∷ []); said = p.said ++ (reply_in c p.now.memory ∷ []); now = state_after lent ask p.now }
 

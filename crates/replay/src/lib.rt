@@ -2,10 +2,9 @@
 #![tactic(auto)]
 
 pub mod rows; // the numbers of a row
+pub mod kinds; // which call it makes
 pub mod plans; // how much a row takes, and whether it can be played
 pub mod replies; // the numbers of a reply
-pub mod changes; // kinds whose calls change tables
-pub mod asks; // the other kinds
 pub mod turns; // a row, played
 
 ghost use Rattle.std.specs.Prelude.{◌≡◌};
@@ -14,21 +13,11 @@ ghost use Rattle.replay.specs.ReplyRows.{replies_laid};
 ghost use Rattle.replay.specs.Script.{answers_of, played, whole};
 ghost use Rattle.replay.specs.Demanded.{Demanded};
 
+use crate::kinds::RowKind;
 use crate::replies::tell;
-use crate::rows::row_end;
+use crate::rows::Rows;
 use crate::turns::turn;
 use segment::{Sample, Word};
-
-// The lengths of the six tables, or of what a call is lent of them.
-#[derive(Drop)]
-pub struct Lengths {
-    pub control: usize,
-    pub samples: usize,
-    pub nodes: usize,
-    pub links: usize,
-    pub work: usize,
-    pub labels: usize,
-}
 
 // How much of the samples, the trails and the sheets: what calls have taken, what a row takes, or all that there is.
 #[derive(Clone, Copy)]
@@ -38,26 +27,18 @@ pub struct Amounts {
     pub sheets: usize,
 }
 
-// How much a row takes, if it is of a kind.
-#[derive(Drop)]
-pub struct Wanted {
-    pub known: bool,
-    pub size: Amounts,
-}
-
-// Whether a row can be played, and how much is taken then.
-#[derive(Drop)]
+// Of a row that can be played: which call it makes, and how much is taken then.
+#[derive(Clone, Copy)]
 pub struct Plan {
-    pub made: bool,
+    pub kind: RowKind,
     pub to: Amounts,
 }
 
-// What playing a row comes to: whether a call was made; its reply as numbers, which are 0 or the refusal's number, then the answer's values
-// or the refusal's place, zeros behind them; and how much is taken.
+// What playing a row comes to: the reply of its call, if one was made, as numbers, which are 0 or the refusal's number, then the answer's
+// values or the refusal's place, zeros behind them; and how much is taken.
 #[derive(Clone, Copy)]
 pub struct Turn {
-    pub made: bool,
-    pub numbers: [u64; 5],
+    pub numbers: Option<[u64; 5]>,
     pub at: Amounts,
 }
 
@@ -110,26 +91,12 @@ pub fn play(
         trails: 0,
         sheets: 0,
     };
-    let mut place: usize = 0;
     let mut count: usize = 0;
-    while place < script.len() {
-        let from = place + 1;
-        let to = row_end(script, place);
+    for row in Rows(script) {
         let turned = turn(
-            control,
-            samples,
-            nodes,
-            links,
-            work,
-            labels,
-            trails,
-            sheets,
-            pool,
-            &script[from..to],
-            at,
+            control, samples, nodes, links, work, labels, trails, sheets, pool, row, at,
         );
-        count = tell(replies, count, turned);
+        count = tell(replies, count, turned.numbers);
         at = turned.at;
-        place = to;
     }
 }

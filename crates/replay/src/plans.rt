@@ -1,148 +1,92 @@
 // How much a row takes, and whether it can be played: by numbers alone.
 
-ghost use Rattle.std.specs.Prelude.{◌≡◌, true, false, ◌-◌, ◌≤◌};
-ghost use Rattle.std.proofs.Math.Option.{some};
-ghost use Rattle.replay.specs.Script.{number_at, lengths_by, amounts, CallKind, kinds, call_kind_at};
-ghost use Rattle.replay.specs.Script.{fits_in, enough, takes_of, playable, moved_by, wanted_by, planned_by};
+ghost use Rattle.std.specs.Prelude.{◌≡◌, None, ◌-◌, ◌≤◌, MatchOption};
+ghost use Rattle.tables.specs.Judge.{lengths_by};
+ghost use Rattle.replay.specs.Script.{amounts, kind_by, fits_in, enough, playable, Planned};
 
+use crate::kinds::RowKind;
 use crate::rows::{lengths, number_at, places};
-use crate::{Amounts, Lengths, Plan, Wanted};
+use crate::{Amounts, Plan};
+use tables::Lengths;
 
-fn size(samples: usize, trails: usize, sheets: usize) -> Wanted
-    ensures { result ≡ record { known = true; size = amounts samples trails sheets } }
+// By the first two of a row's own numbers.
+#[tactic(auto, unfolding(crate::specs::Script::kind_by))]
+fn wanted(kind: RowKind, row: &[u64]) -> Amounts
+    ensures { result ≡ (kind_by kind).takes row.now }
 {
-    Wanted {
-        known: true,
-        size: Amounts {
-            samples: samples,
-            trails: trails,
-            sheets: sheets,
-        },
-    }
-}
-
-// By a row's kind and its first two own numbers. (Behind the last kind there is none.)
-fn wanted(row: &[u64]) -> Wanted
-    ensures { wanted_by result ≡ takes_of (call_kind_at kinds (number_at row.now 0)) row.now }
-{
-    let kind = number_at(row, 0);
+    let nothing = Amounts {
+        samples: 0,
+        trails: 0,
+        sheets: 0,
+    };
     let first = places(number_at(row, 7));
-    let second = places(number_at(row, 8));
-    if kind == 0 {
-        return size(0, 0, 0);
-    }
-    if kind == 1 {
-        return size(first, 0, 0);
-    }
-    if kind == 2 {
-        return size(first, second, 0);
-    }
-    if kind < 5 {
-        return size(0, 0, first);
-    }
-    Wanted {
-        known: false,
-        size: Amounts {
-            samples: 0,
-            trails: 0,
-            sheets: 0,
+    match kind {
+        RowKind::Opening => nothing,
+        RowKind::Adding => Amounts {
+            samples: first,
+            ..nothing
+        },
+        RowKind::Matching => Amounts {
+            samples: first,
+            trails: places(number_at(row, 8)),
+            ..nothing
+        },
+        RowKind::Writing | RowKind::Reading => Amounts {
+            sheets: first,
+            ..nothing
         },
     }
-}
-
-// Whether a kind's calls change tables.
-pub fn changes(kind: u64) -> bool
-    ensures { (k : CallKind) → call_kind_at kinds kind ≡ some k → k.changes ≡ result }
-{
-    if kind == 2 {
-        return false;
-    }
-    if kind == 3 {
-        return false;
-    }
-    true
 }
 
 // No table is lent longer than it is.
+#[tactic(auto, unfolding(crate::specs::Script::fits_in))]
 fn fits(all: Lengths, lent: Lengths) -> bool
     ensures { result ≡ fits_in (lengths_by lent) (lengths_by all) }
 {
-    if all.control < lent.control {
-        return false;
-    }
-    if all.samples < lent.samples {
-        return false;
-    }
-    if all.nodes < lent.nodes {
-        return false;
-    }
-    if all.links < lent.links {
-        return false;
-    }
-    if all.work < lent.work {
-        return false;
-    }
-    if all.labels < lent.labels {
-        return false;
-    }
-    true
+    lent.control <= all.control
+        && lent.samples <= all.samples
+        && lent.nodes <= all.nodes
+        && lent.links <= all.links
+        && lent.work <= all.work
+        && lent.labels <= all.labels
 }
 
 // No more is taken than is ahead.
-fn is_enough(size: Amounts, samples: usize, trails: usize, sheets: usize) -> bool
-    ensures { result ≡ enough size (amounts samples trails sheets) }
+#[tactic(auto, unfolding(crate::specs::Script::enough))]
+fn is_enough(size: Amounts, ahead: Amounts) -> bool
+    ensures { result ≡ enough size ahead }
 {
-    if samples < size.samples {
-        return false;
-    }
-    if trails < size.trails {
-        return false;
-    }
-    if sheets < size.sheets {
-        return false;
-    }
-    true
-}
-
-fn not_played(at: Amounts) -> Plan
-    ensures { result ≡ record { made = false; to = at } }
-{
-    Plan {
-        made: false,
-        to: at,
-    }
+    size.samples <= ahead.samples && size.trails <= ahead.trails && size.sheets <= ahead.sheets
 }
 
 // On tables of these lengths, where this much of all that there is has been taken.
-pub fn plan(row: &[u64], lent: Lengths, at: Amounts, all: Amounts) -> Plan
+pub fn plan(row: &[u64], lent: Lengths, at: Amounts, all: Amounts) -> Option<Plan>
     requires { (at.samples ≤ all.samples) × (at.trails ≤ all.trails) × (at.sheets ≤ all.sheets) }
-    ensures { planned_by result
-        ≡ moved_by (playable (lengths_by lent)
-        (amounts (all.samples - at.samples) (all.trails - at.trails) (all.sheets - at.sheets))
-        row.now) row.now at }
+    ensures { let ahead = amounts (all.samples - at.samples) (all.trails - at.trails) (all.sheets - at.sheets) in
+        MatchOption result (playable (lengths_by lent) ahead row.now ≡ None)
+        (λ plan. Planned (lengths_by lent) ahead row.now at plan) }
 {
     if !fits(lent, lengths(row)) {
-        return not_played(at);
+        return None;
     }
-    let wanted = wanted(row);
-    if !wanted.known {
-        return not_played(at);
+    let Ok(kind) = RowKind::try_from(number_at(row, 0)) else {
+        return None;
+    };
+    let size = wanted(kind, row);
+    let ahead = Amounts {
+        samples: all.samples - at.samples,
+        trails: all.trails - at.trails,
+        sheets: all.sheets - at.sheets,
+    };
+    if !is_enough(size, ahead) {
+        return None;
     }
-    let size = wanted.size;
-    if !is_enough(
-        size,
-        all.samples - at.samples,
-        all.trails - at.trails,
-        all.sheets - at.sheets,
-    ) {
-        return not_played(at);
-    }
-    Plan {
-        made: true,
+    Some(Plan {
+        kind,
         to: Amounts {
             samples: at.samples + size.samples,
             trails: at.trails + size.trails,
             sheets: at.sheets + size.sheets,
         },
-    }
+    })
 }

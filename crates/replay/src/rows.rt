@@ -1,11 +1,13 @@
-// The numbers of a row.
+// The rows of a script, and the numbers of a row.
 
-ghost use Rattle.std.specs.Prelude.{◌≡◌, ◌∷◌, ◌+◌, ◌-◌, ◌≤◌, ◌<◌, length, take, drop};
-ghost use Rattle.replay.specs.Script.{rows_of, number_at, lent_by, lengths_by};
+ghost use Rattle.std.specs.Prelude.{◌≡◌};
+ghost use Rattle.std.specs.Iterator.{YieldsFirstRef, item_count};
+ghost use Rattle.tables.specs.Judge.{lengths_by};
+ghost use Rattle.replay.specs.Script.{rows_left, number_at, lent_by};
 
-use crate::Lengths;
+use tables::Lengths;
 
-// A number as a length: both have 64 bits.
+// A number as a length: both have 64 bits. The library has no `From` for it.
 pub fn places(x: u64) -> usize
     ensures { result ≡ x }
 {
@@ -16,7 +18,7 @@ pub fn places(x: u64) -> usize
 pub fn number_at(row: &[u64], place: usize) -> u64
     ensures { result ≡ number_at row.now place }
 {
-    if place < row.len() { row[place] } else { 0 }
+    row.get(place).copied().unwrap_or(0)
 }
 
 // The lengths that a row says.
@@ -33,17 +35,22 @@ pub fn lengths(row: &[u64]) -> Lengths
     }
 }
 
-// Where the row ends whose length stands at a place: at the script's end, if it says that it is longer than what is left.
-pub fn row_end(script: &[u64], place: usize) -> usize
-    requires { place < length script.now }
-    ensures { (place + 1 ≤ result) × (result ≤ length script.now)
-        × (rows_of (drop place script.now)
-        ≡ take (result - (place + 1)) (drop (place + 1) script.now) ∷ rows_of (drop result script.now)) }
-{
-    let many = places(script[place]);
-    let from = place + 1;
-    if script.len() - from < many {
-        return script.len();
+// The rows of a script that are left, each behind its length. The last one ends with the script, if it says that it is longer.
+#[derive(Drop)]
+pub struct Rows<'a>(pub &'a [u64]);
+
+impl<'a> Iterator for Rows<'a> {
+    type Item = &'a [u64];
+
+    ghost next_gives = { YieldsFirstRef rows_left };
+
+    ghost remaining = { item_count rows_left };
+
+    #[tactic(auto, using(crate::proofs::ReadBack::no_row))]
+    fn next(&mut self) -> Option<&'a [u64]> {
+        let (size, rest) = self.0.split_first()?;
+        let (row, others) = rest.split_at(places(*size).min(rest.len()));
+        self.0 = others;
+        Some(row)
     }
-    from + many
 }

@@ -1,26 +1,17 @@
 // A row, played: planned, then lent what it takes.
 
-ghost use Rattle.std.specs.Prelude.{◌≡◌, [], ◌∷◌, Bool, false};
-ghost use Rattle.std.proofs.Math.Option.{some};
+ghost use Rattle.std.specs.Prelude.{◌≡◌, Some};
 ghost use Rattle.tables.specs.Tables.{labelled_tables, lent_of};
 ghost use Rattle.tables.specs.Lent.{tables_after, tables_before_all};
-ghost use Rattle.replay.specs.Script.{lent_by, state_at, AmountsInside, taken, ahead_of, playable, asks, moved_by};
+ghost use Rattle.replay.specs.Script.{lent_by, state_at, AmountsInside, taken, ahead_of, asks, Planned};
 ghost use Rattle.replay.specs.Script.{called, Plays, turned, turn_made, turn_of};
 
+use crate::kinds::RowKind;
+use crate::replies::{of_done, of_found, of_number};
 use crate::rows::{lengths, number_at};
-use crate::{Amounts, Lengths, Turn, asks, changes, plans};
+use crate::{Amounts, Plan, Turn, plans};
 use segment::{Sample, Word};
-
-// A row that makes no call takes nothing.
-fn no_call(at: Amounts) -> Turn
-    ensures { result ≡ record { made = false; numbers = 0 ∷ 0 ∷ 0 ∷ 0 ∷ 0 ∷ []; at = at } }
-{
-    Turn {
-        made: false,
-        numbers: [0; 5],
-        at: at,
-    }
-}
+use tables::Lengths;
 
 // A row of any kind, lent the tables and all that it takes.
 fn call(
@@ -34,23 +25,37 @@ fn call(
     sheet: &mut [u8],
     query: &[Sample],
     row: &[u64],
-    kind: u64,
+    kind: RowKind,
 ) -> [u64; 5]
-    ensures { (changes : Bool) → Plays changes kind row.now
+    ensures { Plays kind row.now
         (taken query.now trail.old sheet.old)
         (tables_before_all control samples nodes links work labels)
         (called result
         (tables_after control samples nodes links work labels)
         (taken query.now trail.new sheet.new)) }
 {
-    if plans::changes(kind) {
-        return changes::play(
-            control, samples, nodes, links, work, labels, sheet, query, row, kind,
-        );
+    match kind {
+        RowKind::Opening => {
+            let n = number_at(row, 7);
+            let capacity = number_at(row, 8);
+            let leaf_size = number_at(row, 9);
+            of_done(opening::open(
+                control, samples, nodes, links, work, labels, n, capacity, leaf_size,
+            ))
+        }
+        RowKind::Adding => of_number(adding::add(
+            control, samples, nodes, links, work, labels, query,
+        )),
+        RowKind::Matching => of_found(matching::nearest(
+            control, samples, nodes, links, work, labels, trail, query,
+        )),
+        RowKind::Writing => of_number(sheet_writing::write_sheet(
+            control, samples, nodes, links, work, labels, sheet,
+        )),
+        RowKind::Reading => of_done(sheet_reading::read_sheet(
+            control, samples, nodes, links, work, labels, sheet,
+        )),
     }
-    asks::play(
-        control, samples, nodes, links, work, labels, trail, sheet, query, kind,
-    )
 }
 
 // A row that can be played is lent the first so many places of each table, and the next so many samples, places of a trail and bytes of a
@@ -67,16 +72,16 @@ fn lend(
     pool: &[Sample],
     row: &[u64],
     at: Amounts,
-    to: Amounts,
+    plan: Plan,
 ) -> [u64; 5]
     requires amounts_inside { AmountsInside at pool.now trails.old sheets.old }
-    requires to_value { some to ≡ moved_by (playable
+    requires planned { Planned
         (lent_of (labelled_tables control.old samples.old nodes.old links.old work.old labels.old))
         (ahead_of (state_at (labelled_tables control.old samples.old nodes.old links.old work.old labels.old) pool.now
-        trails.old sheets.old at)) row.now) row.now at }
-    ensures { turned (some result) (state_at
+        trails.old sheets.old at)) row.now at plan }
+    ensures { turned (Some result) (state_at
         (tables_after control samples nodes links work labels)
-        pool.now trails.new sheets.new to)
+        pool.now trails.new sheets.new plan.to)
         ≡ turn_made (lent_by row.now) (asks (lent_of
         (tables_before_all control samples nodes links work labels))
         row.now (state_at
@@ -85,32 +90,20 @@ fn lend(
         (tables_before_all control samples nodes links work labels)
         pool.now trails.old sheets.old at) }
 {
-    let kind = number_at(row, 0);
     let lent = lengths(row);
-    let c = lent.control;
-    let s = lent.samples;
-    let n = lent.nodes;
-    let l = lent.links;
-    let w = lent.work;
-    let b = lent.labels;
-    let first_sample = at.samples;
-    let last_sample = to.samples;
-    let first_mark = at.trails;
-    let last_mark = to.trails;
-    let first_byte = at.sheets;
-    let last_byte = to.sheets;
+    let to = plan.to;
     call(
-        &mut control[..c],
-        &mut samples[..s],
-        &mut nodes[..n],
-        &mut links[..l],
-        &mut work[..w],
-        &mut labels[..b],
-        &mut trails[first_mark..last_mark],
-        &mut sheets[first_byte..last_byte],
-        &pool[first_sample..last_sample],
+        &mut control[..lent.control],
+        &mut samples[..lent.samples],
+        &mut nodes[..lent.nodes],
+        &mut links[..lent.links],
+        &mut work[..lent.work],
+        &mut labels[..lent.labels],
+        &mut trails[at.trails..to.trails],
+        &mut sheets[at.sheets..to.sheets],
+        &pool[at.samples..to.samples],
         row,
-        kind,
+        plan.kind,
     )
 }
 
@@ -154,17 +147,14 @@ pub fn turn(
         trails: trails.len(),
         sheets: sheets.len(),
     };
-    let planned = plans::plan(row, lent, at, all);
-    if !planned.made {
-        return no_call(at);
-    }
-    let to = planned.to;
+    let Some(plan) = plans::plan(row, lent, at, all) else {
+        return Turn { numbers: None, at };
+    };
     let numbers = lend(
-        control, samples, nodes, links, work, labels, trails, sheets, pool, row, at, to,
+        control, samples, nodes, links, work, labels, trails, sheets, pool, row, at, plan,
     );
     Turn {
-        made: true,
-        numbers: numbers,
-        at: to,
+        numbers: Some(numbers),
+        at: plan.to,
     }
 }

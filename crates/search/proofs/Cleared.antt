@@ -2,7 +2,7 @@
 -- they were.
 use Prim.Native.Nat.{ℕ}
 use mathlib.Core.Path.{◌≡◌, refl, ◌∙◌, ap}
-use mathlib.Core.Bool.{Bool}
+use Rattle.std.specs.Prelude.{Option as Told}
 use mathlib.Core.List.{List, ◌++◌}
 use lib.ListN.{drop, replicate}
 use Rattle.integer.proofs.Lists.{drop_more}
@@ -24,7 +24,7 @@ zeroed t query size ready work work₁ work' behind z =
     z ∙ ap (λ (l : List ℕ). replicate n 0 ++ l) (drop_more n (node_count t) work₁ work (nodes_needed t query size ready) behind)
 
 module _ (k most : ℕ) (t : Tables) (query : Trace) (size : ℕ) (ready : Ready t query size) (work work₁ work' trail trail' list list' : List ℕ)
-    (many out traces : ℕ) (unread : Bool) (bound : ℕ) (v : LimitVisited k most t query trail trail' list list' many out traces unread bound) where
+    (many out traces : ℕ) (unread : Told ℕ) (v : LimitVisited k most t query trail trail' list list' many out traces unread) where
   pub cleared : drop (node_count t) work₁ ≡ drop (node_count t) work → work' ≡ filled (work_needed (measures_of t)) 0 work₁
-      → LimitSearched k most t query work work' trail trail' list list' many out traces unread bound
+      → LimitSearched k most t query work work' trail trail' list list' many out traces unread
   cleared behind z = record { limit_visited = v; work_zero = zeroed t query size ready work work₁ work' behind z }

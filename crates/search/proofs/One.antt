@@ -1,7 +1,7 @@
 -- The match is the one nearest: what a search for one trace leaves in a list is what the match has found, with a limit on leaves or without.
 use Prim.Native.Nat.{ℕ, ◌*◌}
 use mathlib.Core.Path.{◌≡◌, ◌∙◌, sym, ap, ap₂, subst}
-use mathlib.Core.Bool.{Bool}
+use Rattle.std.specs.Prelude.{Option as Told}
 use mathlib.Core.Option.{Option, none, some}
 use mathlib.Core.List.{List, [], ◌∷◌}
 use native.Mathlib.Omega.{arith}
@@ -65,11 +65,11 @@ module _ (t : Tables) (query : Trace) (work work' trail trail' list' : List ℕ)
         }
 
     -- with one: the bound of the leaf that would be read next tells whether it is settled
-    pub one_within : (most : ℕ) (unread : Bool) (bound : ℕ)
-        → LimitSearched 1 most t query work work' trail trail' (0 ∷ 0 ∷ []) list' many out traces unread bound
-        → MatchedWithin most t query work work' trail trail' (get_or list' 0 0) (get_or list' 1 0) out traces unread bound
+    pub one_within : (most : ℕ) (unread : Told ℕ)
+        → LimitSearched 1 most t query work work' trail trail' (0 ∷ 0 ∷ []) list' many out traces unread
+        → MatchedWithin most t query work work' trail trail' (get_or list' 0 0) (get_or list' 1 0) out traces unread
     unfolding limited_by_steps
-    one_within most unread bound s =
+    one_within most unread s =
         let best = limited_search most (traces_in t) (tree_in t) query in
         let order = reading_order (tree_in t) query in
         let v = subst (λ (l : Listing). VisitedBy 1 l trail trail' (0 ∷ 0 ∷ []) list' many out traces)

@@ -8,10 +8,11 @@ use native.Mathlib.Numerals.{add-one}
 use native.Mathlib.Omega.{arith}
 use lib.ListN.{length, take, drop, set, length-set}
 use lib.Seq.{drop-drop, drop-set-lt, take-suc-set}
-use lib.Dec.{eqb}
-use borrow.Author.Tests.{eqb-true, eqb-false}
+use lib.Dec.{ltb}
+use borrow.Author.Tests.{ltb-true, ltb-false}
+use Rattle.std.specs.Prelude.{Option as Told, Some, None, if◌then◌else◌}
 use Rattle.integer.specs.Sorting.{Ordered, ordered_none}
-use Rattle.integer.proofs.Lists.{strict, drop_more, All, all_none, all_more, all_mono, all_take}
+use Rattle.integer.proofs.Lists.{drop_more, All, all_none, all_more, all_mono, all_take}
 use Rattle.integer.proofs.Sorting.{place_get_or, place_none, kept_ordered, kept_more}
 use Rattle.dstree.specs.Measures.{Trace}
 use Rattle.dstree.specs.Node.{Tree}
@@ -25,12 +26,13 @@ use Rattle.tables.specs.Tables.{Tables, measures_of, trace_count, node_count, re
 use Rattle.tables.specs.View.{small_at, tree_in, shape_in, traces_in}
 use Rattle.tables.specs.Walk.{numbers_of, Stored}
 use Rattle.reading.specs.Nearest.{near, near_of}
-use Rattle.reading.specs.Listed.{record_at, nears_in, ListRoom, ListBegins}
+use Rattle.reading.specs.Listed.{record_at, nears_in, kth_distance, ListRoom, ListBegins}
 use Rattle.reading.proofs.Records.{nears_length, nears_none, nears_at}
 use Rattle.reading.proofs.Meaning.{LeafInTables, answer_is}
 use Rattle.best_first.proofs.Alike.{order_alike}
 use Rattle.leaf_order.specs.Waits.{Waits, remaining, Begun}
 use Rattle.leaf_order.specs.Handed.{is_past, Past, HandedLeaf}
+use Rattle.leaf_order.specs.declared.leaves.Leaf.{Leaf}
 use Rattle.search.specs.Searched.{Ready, listing_by, listed_first, next_by, VisitedBy, LimitVisited}
 use Rattle.search.proofs.Facts.{shape_alike}
 
@@ -55,13 +57,14 @@ kth_fewer zero m list h = absurd (omega arith)
 kth_fewer (suc k) m list h = place_none k (nears_in m list) (omega (arith, nears_length m list))
 
 pub past_is : (k m : ℕ) (list : List ℕ) → 1 ≤ k → m ≤ k → (bound : ℕ)
-    → is_past (eqb m k) (record_at list (k - 1)).distance bound ≡ is_above bound (kth k (nears_in m list))
-unfolding is_past is_above
-past_is k m list one few bound = by (eqb m k) refl
+    → is_past (kth_distance k m list) bound ≡ is_above bound (kth k (nears_in m list))
+unfolding is_past is_above kth_distance
+past_is k m list one few bound = by (ltb m k) refl
   where
-    by : (f : Bool) → eqb m k ≡ f → is_past f (record_at list (k - 1)).distance bound ≡ is_above bound (kth k (nears_in m list))
-    by true e = rw (eqb-true m k e, kth_full k list one)
-    by false e = rw (kth_fewer k m list (strict few (eqb-false m k e)))
+    by : (f : Bool) → ltb m k ≡ f
+        → is_past (if f then None else Some (record_at list (k - 1)).distance) bound ≡ is_above bound (kth k (nears_in m list))
+    by true e = rw (kth_fewer k m list (ltb-true m k e))
+    by false e = let full : m ≡ k = omega (arith, few, ltb-false m k e) in rw (full, kth_full k list one)
 
 -- ---- leaves read on in order
 
@@ -153,16 +156,13 @@ module _ (k most : ℕ) (t : Tables) (query : Trace) (trail₀ list₀ : List �
     pub out_most : out ≤ length (leaves (tree_in t))
     out_most = omega (arith, s.trail_room)
 
-    abbrev limited : Bool
-    limited = eqb many k
-
-    abbrev limit : ℕ
-    limit = (record_at list (k - 1)).distance
+    abbrev limit : Told ℕ
+    limit = kth_distance k many list
 
     abbrev so_far : Listing
     so_far = listing_by (nears_in many list) traces (take out trail)
 
-    stops_as : (bound : ℕ) → is_past limited limit bound ≡ stops_at_kth k so_far bound
+    stops_as : (bound : ℕ) → is_past limit bound ≡ stops_at_kth k so_far bound
     unfolding stops_at_kth
     stops_as bound = past_is k many list s.room.some_record s.room.few bound
 
@@ -178,8 +178,8 @@ module _ (k most : ℕ) (t : Tables) (query : Trace) (trail₀ list₀ : List �
     }
 
     -- no leaf to come is within the k-th distance
-    pub state_end : All (Past limited limit) (remaining tree query waiting work)
-        → LimitVisited k most t query trail₀ trail list₀ list many out traces false 0
+    pub state_end : All (Past limit) (remaining tree query waiting work)
+        → LimitVisited k most t query trail₀ trail list₀ list many out traces None
     unfolding stops_at_kth next_by
     state_end past =
         let stop = all_mono (λ a e. sym (stops_as a.bound) ∙ e) past in
@@ -189,43 +189,43 @@ module _ (k most : ℕ) (t : Tables) (query : Trace) (trail₀ list₀ : List �
         }
 
     -- there is a next leaf
-    module _ {work' : List ℕ} {bound j left : ℕ} (h : HandedLeaf tree query limited limit waiting work work' bound j left) where
+    module _ {work' : List ℕ} {left : ℕ} {leaf : Leaf} (h : HandedLeaf tree query limit waiting left work work' leaf) where
       pub leaf_room : out < length trail
       leaf_room = omega (arith, s.trail_room, ap length h.first, ready.trail_long, s.trail_size)
 
-      goes : stops_at_kth k so_far bound ≡ false
-      goes = sym (stops_as bound) ∙ h.within
+      goes : stops_at_kth k so_far leaf.bound ≡ false
+      goes = sym (stops_as leaf.bound) ∙ h.within
 
       -- no more may be read
-      pub state_limit : out ≡ most → LimitVisited k most t query trail₀ trail list₀ list many out traces true bound
+      pub state_limit : out ≡ most → LimitVisited k most t query trail₀ trail list₀ list many out traces (Some leaf.bound)
       unfolding read_on stops_at_kth next_by
       state_limit e = record {
         visited = ends (rw (no_more most out e (remaining tree query waiting work)));
         next =
             sym (ap (next_bound (kth k (nears_in many list))) (sym s.to_come ∙ h.first)
-            ∙ one_next (kth k (nears_in many list)) (record { number = j; bound = bound }) (remaining tree query left work') goes);
+            ∙ one_next (kth k (nears_in many list)) (record { number = leaf.number; bound = leaf.bound }) (remaining tree query left work') goes);
       }
 
       pub leaf_less : length (remaining tree query left work') < length (remaining tree query waiting work)
       leaf_less = rw h.first (omega arith)
 
       -- it is read
-      pub state_leaf : out < most → (at : LeafInTables t j) (n count head traces' many' : ℕ) (list' : List ℕ) → n ≡ (measures_of t).n
+      pub state_leaf : out < most → (at : LeafInTables t leaf.number) (n count head traces' many' : ℕ) (list' : List ℕ) → n ≡ (measures_of t).n
           → count ≡ trace_count t
-          → head ≡ small_at (record_of t.nodes j) first_place
+          → head ≡ small_at (record_of t.nodes leaf.number) first_place
           → ListBegins k many'
           (foldl (list_with k) (nears_in many list) (map (near_of t.samples n query) (numbers_of t.links count head))) list list'
           → length list' ≡ length list
           → traces' ≡ length (numbers_of t.links count head)
           → traces' ≤ count
-          → SearchState k most t query tree trail₀ list₀ work' (set trail out j) list' left (out + 1) (traces + traces') many'
+          → SearchState k most t query tree trail₀ list₀ work' (set trail out leaf.number) list' left (out + 1) (traces + traces') many'
       state_leaf more_read at n count head traces' many' list' n_is count_is head_is lists size counted few_more =
-          let next : LeafBound = record { number = j; bound = bound } in
+          let next : LeafBound = record { number = leaf.number; bound = leaf.bound } in
           let met = map (near_of t.samples n query) (numbers_of t.links count head) in
-          let noted : take (out + 1) (set trail out j) ≡ take out trail ++ (j ∷ []) =
-          rw (add-one out) (take-suc-set trail out j leaf_room) in
-          let read : read_in k t query so_far j ≡ listing_by (nears_in many' list') (traces + traces') (take (out + 1) (set trail out j)) =
-          answer_is t j at query k so_far (nears_in many' list') traces' (rw (n_is, count_is, head_is) at lists.nears_are)
+          let noted : take (out + 1) (set trail out leaf.number) ≡ take out trail ++ (leaf.number ∷ []) =
+          rw (add-one out) (take-suc-set trail out leaf.number leaf_room) in
+          let read : read_in k t query so_far leaf.number ≡ listing_by (nears_in many' list') (traces + traces') (take (out + 1) (set trail out leaf.number)) =
+          answer_is t leaf.number at query k so_far (nears_in many' list') traces' (rw (n_is, count_is, head_is) at lists.nears_are)
           (rw (count_is, head_is) at counted)
           ∙ ap (listing_by (nears_in many' list') (traces + traces')) (sym noted) in
           let more : many ≤ many' =
@@ -249,8 +249,8 @@ module _ (k most : ℕ) (t : Tables) (query : Trace) (trail₀ list₀ : List �
             out_few = omega (arith, more_read);
             trail_room = omega (arith, s.trail_room, ap length h.first);
             few = omega (arith, s.few, few_more, count_is, at.stored.few);
-            trail_size = length-set trail out j ∙ s.trail_size;
-            trail_rest = drop-set-lt (out + 1) trail out j (omega arith) ∙ drop_one out trail trail₀ s.trail_rest;
+            trail_size = length-set trail out leaf.number ∙ s.trail_size;
+            trail_rest = drop-set-lt (out + 1) trail out leaf.number (omega arith) ∙ drop_one out trail trail₀ s.trail_rest;
             room = record {
               some_record = s.room.some_record;
               few = lists.few;

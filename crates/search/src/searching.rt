@@ -3,9 +3,12 @@ ghost use Rattle.std.specs.Prelude.{◌*◌, ◌≤◌, length};
 ghost use Rattle.segment.specs.Stored.{samples_of};
 ghost use Rattle.dstree.specs.Measures.{work_needed};
 ghost use Rattle.tables.specs.Tables.{measures_of};
-ghost use Rattle.search.specs.Searched.{without_work, Ready, LimitSearched, ListSearched, Searched, MatchedWithin};
+ghost use Rattle.search.specs.Lent.{stored_tables};
+ghost use Rattle.search.specs.Searched.{Ready, LimitSearched, ListSearched, Searched, MatchedWithin};
 
+use crate::stored::Stored;
 use crate::visiting::{ALL_LEAVES, Seen};
+use prefixes::Summed;
 use segment::Word;
 use tables::control::field;
 use tables::places::{CAPACITY, NODE_COUNT};
@@ -13,10 +16,7 @@ use tables::places::{CAPACITY, NODE_COUNT};
 // Lists the k nearest of the traces in the first leaves, at most so many: two places a record, trace number and distance, from the list's
 // first place on; the places behind them stay. The needed places of search work are zero when it ends, whatever they held.
 fn search_first(
-    control: &[u16],
-    samples: &[Word],
-    nodes: &[i64],
-    links: &[u16],
+    stored: Stored,
     query: &[Word],
     work: &mut [u64],
     trail: &mut [u16],
@@ -24,64 +24,51 @@ fn search_first(
     k: usize,
     most: u64,
 ) -> Seen
-    requires ready { Ready (without_work control.now samples.now nodes.now links.now) (samples_of query.now) (length trail.old)
-        × (work_needed (measures_of (without_work control.now samples.now nodes.now links.now)) ≤ length work.old) }
+    requires ready { Ready (stored_tables stored) (samples_of query.now) (length trail.old)
+        × (work_needed (measures_of (stored_tables stored)) ≤ length work.old) }
     requires list { (1 ≤ k) × (2 * k ≤ length list.old) }
-    ensures { LimitSearched k most (without_work control.now samples.now nodes.now
-        links.now)
+    ensures { LimitSearched k most (stored_tables stored.entry)
         (samples_of query.now) work.old work.new trail.old trail.new list.old
-        list.new result.listed result.out result.traces result.unread result.bound }
+        list.new result.listed result.out result.traces result.unread }
 {
-    let mut sums: [i64; 257] = [0; 257];
-    let mut squares: [u64; 257] = [0; 257];
-    prefixes::prefix_sums(query, &mut sums, &mut squares);
-    let count = tables::numbers::wide(field(control, NODE_COUNT));
+    let summed = Summed::of(query);
+    let count = tables::numbers::wide(field(stored.control, NODE_COUNT));
     let seen = crate::visiting::visit_first(
-        control,
-        samples,
-        nodes,
-        links,
-        query,
-        &sums,
-        &squares,
+        stored,
+        &summed,
         &mut work[..count],
         trail,
         list,
         k,
         most,
     );
-    let capacity = tables::numbers::wider(field(control, CAPACITY));
+    let capacity = tables::numbers::wider(field(stored.control, CAPACITY));
     let needed = tables::control::records_needed(capacity);
-    tables::loops::zero_work(work, needed);
+    tables::loops::fill_first(work, needed, 0);
     seen
 }
 
 // Lists the k nearest of all stored traces, as above.
 pub fn search_list(
-    control: &[u16],
-    samples: &[Word],
-    nodes: &[i64],
-    links: &[u16],
+    stored: Stored,
     query: &[Word],
     work: &mut [u64],
     trail: &mut [u16],
     list: &mut [u64],
     k: usize,
 ) -> Seen
-    requires ready { Ready (without_work control.now samples.now nodes.now links.now) (samples_of query.now) (length trail.old)
-        × (work_needed (measures_of (without_work control.now samples.now nodes.now links.now)) ≤ length work.old) }
+    requires ready { Ready (stored_tables stored) (samples_of query.now) (length trail.old)
+        × (work_needed (measures_of (stored_tables stored)) ≤ length work.old) }
     requires list { (1 ≤ k) × (2 * k ≤ length list.old) }
-    ensures { ListSearched k (without_work control.now samples.now nodes.now links.now)
+    ensures { ListSearched k (stored_tables stored.entry)
         (samples_of query.now) work.old work.new trail.old trail.new list.old
         list.new result.listed result.out result.traces }
 {
-    search_first(
-        control, samples, nodes, links, query, work, trail, list, k, ALL_LEAVES,
-    )
+    search_first(stored, query, work, trail, list, k, ALL_LEAVES)
 }
 
 // The nearest trace and its distance, the leaves read, which the trail begins with, and the traces read.
-#[derive(Drop)]
+#[derive(Clone, Copy, PartialEq, Eq)]
 pub struct Matched {
     pub trace: u64,
     pub distance: u64,
@@ -91,25 +78,15 @@ pub struct Matched {
 
 // The match: one nearest, in a list of its own. Where nothing is found the list keeps its zeros, as the definition has it; no test is
 // needed.
-pub fn search_all(
-    control: &[u16],
-    samples: &[Word],
-    nodes: &[i64],
-    links: &[u16],
-    query: &[Word],
-    work: &mut [u64],
-    trail: &mut [u16],
-) -> Matched
-    requires { Ready (without_work control.now samples.now nodes.now links.now) (samples_of query.now) (length trail.old)
-        × (work_needed (measures_of (without_work control.now samples.now nodes.now links.now)) ≤ length work.old) }
-    ensures { Searched (without_work control.now samples.now nodes.now links.now)
+pub fn search_all(stored: Stored, query: &[Word], work: &mut [u64], trail: &mut [u16]) -> Matched
+    requires { Ready (stored_tables stored) (samples_of query.now) (length trail.old)
+        × (work_needed (measures_of (stored_tables stored)) ≤ length work.old) }
+    ensures { Searched (stored_tables stored.entry)
         (samples_of query.now) work.old work.new trail.old trail.new result.trace
         result.distance result.out result.traces }
 {
     let mut list: [u64; 2] = [0; 2];
-    let seen = search_list(
-        control, samples, nodes, links, query, work, trail, &mut list, 1,
-    );
+    let seen = search_list(stored, query, work, trail, &mut list, 1);
     Matched {
         trace: list[0],
         distance: list[1],
@@ -118,45 +95,37 @@ pub fn search_all(
     }
 }
 
-// What a match with a limit on leaves has found: as a match, and whether a leaf is left unread that would be next, with its bound.
-#[derive(Drop)]
+// What a match with a limit on leaves has found: as a match, and the bound of the leaf that would be read next, if one is left unread.
+#[derive(Clone, Copy, PartialEq, Eq)]
 pub struct BestSoFar {
     pub trace: u64,
     pub distance: u64,
     pub out: usize,
     pub traces: usize,
-    pub unread: bool,
-    pub bound: u64,
+    pub unread: Option<u64>,
 }
 
 // The match with a limit on leaves, of whatever size.
 pub fn search_within(
-    control: &[u16],
-    samples: &[Word],
-    nodes: &[i64],
-    links: &[u16],
+    stored: Stored,
     query: &[Word],
     work: &mut [u64],
     trail: &mut [u16],
     most: u64,
 ) -> BestSoFar
-    requires { Ready (without_work control.now samples.now nodes.now links.now) (samples_of query.now) (length trail.old)
-        × (work_needed (measures_of (without_work control.now samples.now nodes.now links.now)) ≤ length work.old) }
-    ensures { MatchedWithin most (without_work control.now samples.now nodes.now
-        links.now)
+    requires { Ready (stored_tables stored) (samples_of query.now) (length trail.old)
+        × (work_needed (measures_of (stored_tables stored)) ≤ length work.old) }
+    ensures { MatchedWithin most (stored_tables stored.entry)
         (samples_of query.now) work.old work.new trail.old trail.new result.trace
-        result.distance result.out result.traces result.unread result.bound }
+        result.distance result.out result.traces result.unread }
 {
     let mut list: [u64; 2] = [0; 2];
-    let seen = search_first(
-        control, samples, nodes, links, query, work, trail, &mut list, 1, most,
-    );
+    let seen = search_first(stored, query, work, trail, &mut list, 1, most);
     BestSoFar {
         trace: list[0],
         distance: list[1],
         out: seen.out,
         traces: seen.traces,
         unread: seen.unread,
-        bound: seen.bound,
     }
 }

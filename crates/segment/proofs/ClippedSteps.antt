@@ -9,7 +9,6 @@ use native.Mathlib.Numerals.{add-one}
 use lib.ListN.{length, get_or, length-map}
 use lib.IntN.{ℤ, pos, nat_abs, ◌-ℤ◌}
 use lib.Signed.{mag, lt_z}
-use lib.Seq.{take_all}
 use mir.Syntax.{w32}
 use Rattle.integer.proofs.Width.{read}
 use Rattle.segment.specs.Terms.{sum_gap}
@@ -45,16 +44,6 @@ module _ (f : ℤ → ℤ → ℤ → ℕ) where
   pub summed_none : (lows highs ys : List ℤ) → summed_to f lows highs ys 0 ≡ 0
   unfolding summed
   summed_none lows highs ys = refl
-
-  -- all samples
-  pub summed_whole : (lows highs words : List ℤ) → length lows ≡ length words → length highs ≡ length words
-      → summed_to f lows highs (samples_of words) (length words) ≡ summed f lows highs (samples_of words)
-  summed_whole lows highs words a b =
-      rw (
-        take_all (length words) lows (omega arith),
-        take_all (length words) highs (omega arith),
-        take_all (length words) (samples_of words) (omega (arith, length-map words sample_of)),
-      )
 
   -- first samples give no more than all
   pub first_no_more : (k : ℕ) (lows highs ys : List ℤ) → summed_to f lows highs ys k ≤ summed f lows highs ys

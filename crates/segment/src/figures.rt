@@ -28,12 +28,10 @@ pub fn sum(samples: &[Word]) -> i64
     ensures size { nat_abs result ≤ sum_most (length samples.now) }
 {
     let mut total: i32 = 0;
-    let mut i: usize = 0;
-    while i < samples.len() {
-        total += sample_of(samples[i]);
-        i += 1;
+    for word in samples {
+        total += sample_of(*word);
     }
-    total as i64
+    i64::from(total)
 }
 
 // What the words from `from` to before `end` add to the sum of squares.
@@ -44,10 +42,8 @@ fn stretch_squares(samples: &[Word], from: usize, end: usize) -> u64
     ensures size { result ≤ squares_most (end - from) }
 {
     let mut total: u64 = 0;
-    let mut i = from;
-    while i < end {
+    for i in from..end {
         total += sample_square(samples[i]);
-        i += 1;
     }
     total
 }
@@ -62,16 +58,14 @@ pub fn sum_of_squares(samples: &[Word]) -> u64
 {
     let n = samples.len();
     let mut total: u64 = 0;
-    let mut k: usize = 0;
-    while 16 <= n - k {
-        let next = total + stretch_squares(samples, k, k + 16);
+    for block in 0..n / 16 {
+        let next = total + stretch_squares(samples, 16 * block, 16 * block + 16);
         if 70368744177664 < next {
             return next;
         }
         total = next;
-        k += 16;
     }
-    total + stretch_squares(samples, k, n)
+    total + stretch_squares(samples, 16 * (n / 16), n)
 }
 
 // The scatter of w samples with the sum s and the sum of squares q. The limits leave room for samples of 20 bits.
@@ -83,7 +77,7 @@ pub fn scatter_from(w: u64, s: i64, q: u64) -> u64
 }
 
 // Both figures of a segment.
-#[derive(Drop)]
+#[derive(Clone, Copy, Debug, PartialEq, Eq)]
 pub struct Figures {
     pub sum: i64,
     pub scatter: u64,
@@ -113,8 +107,8 @@ pub fn square_difference(a: Word, b: Word) -> u64
     ensures value { result ≡ words.square (sample_of a -ℤ sample_of b) }
     ensures size { result ≤ distance_most 1 }
 {
-    let d = apart(sample_of(a), sample_of(b)) as Product;
-    (d * d) as u64
+    let d = Product::from(apart(sample_of(a), sample_of(b)));
+    u64::from(d * d)
 }
 
 // What the words from `from` to before `end` add to the distance. Where the compiler sees that they are sixteen, it takes them all at
@@ -126,10 +120,8 @@ pub fn stretch_distance(x: &[Word], y: &[Word], from: usize, end: usize) -> u64
     ensures size { result ≤ distance_most (end - from) }
 {
     let mut total: u64 = 0;
-    let mut i = from;
-    while i < end {
+    for i in from..end {
         total += square_difference(x[i], y[i]);
-        i += 1;
     }
     total
 }

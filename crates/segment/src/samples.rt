@@ -25,21 +25,13 @@ pub fn word_of(sample: Sample) -> Word
     sample * 4096
 }
 
-// The size of a number.
-fn size_of(z: i32) -> u32
-    requires { nat_abs z < 2 * sample_most }
-    ensures { result ≡ nat_abs z }
-{
-    if z < 0 { (0 - z) as u32 } else { z as u32 }
-}
-
-// How far two samples are apart: 1,048,575 at most.
+// How far two samples are apart: 1,048,575 at most. (By `abs_diff` the greatest distance of `ranges` takes 1.12 times as long.)
 pub fn apart(a: Sample, b: Sample) -> u32
     requires { (mag a < sample_most) × (mag b < sample_most) }
     ensures value { result ≡ nat_abs (a -ℤ b) }
     ensures size { result < 2 * sample_most }
 {
-    size_of(a - b)
+    (a - b).unsigned_abs()
 }
 
 // The square of a word's sample. The size is widened and then squared: of that the compiler makes the machine's product of 32 bits by 32,
@@ -48,6 +40,6 @@ pub fn sample_square(word: Word) -> u64
     ensures value { result ≡ words.square (sample_of word) }
     ensures size { result ≤ squares_most 1 }
 {
-    let d = size_of(sample_of(word)) as u64;
+    let d = u64::from(sample_of(word).unsigned_abs());
     d * d
 }

@@ -6,9 +6,11 @@ ghost use Rattle.segment.specs.Within.{distance_within, IsFewest};
 ghost use Rattle.segment.specs.Stored.{samples_of};
 
 use crate::Word;
+use crate::figures::{square_difference, stretch_distance};
 
-// The exact distance, or by how many samples it is beyond the limit.
-#[derive(Drop)]
+// The exact distance, or by how many samples it is beyond the limit. It is no Result: neither answer is an error, and both words are the
+// definition's own (`specs/Within`).
+#[derive(Clone, Copy, Debug, PartialEq, Eq)]
 pub enum Distance {
     Exact(u64),
     Beyond(usize),
@@ -23,15 +25,13 @@ fn passing(x: &[Word], y: &[Word], limit: u64, from: usize, start: u64) -> usize
     ensures { IsFewest limit (samples_of x.now) (samples_of y.now) result }
 {
     let mut total = start;
-    let mut i = from;
-    while i < x.len() {
-        total += crate::figures::square_difference(x[i], y[i]);
-        i += 1;
+    for i in from..x.len() {
+        total += square_difference(x[i], y[i]);
         if limit < total {
-            return i;
+            return i + 1;
         }
     }
-    i
+    x.len()
 }
 
 // The distance if it is at most the limit, else how many first samples pass the limit. It goes by sixteen; only the sixteen that pass the
@@ -46,16 +46,17 @@ pub fn distance_within(x: &[Word], y: &[Word], limit: u64) -> Distance
 {
     let n = x.len();
     let mut total: u64 = 0;
+    // tried: over `0..n / 16` it takes 1.07 times as long where the limit is passed, over `(0..end).step_by(16)` 1.12 times
     let mut k: usize = 0;
     while 16 <= n - k {
-        let next = total + crate::figures::stretch_distance(x, y, k, k + 16);
+        let next = total + stretch_distance(x, y, k, k + 16);
         if limit < next {
             return Distance::Beyond(passing(x, y, limit, k, total));
         }
         total = next;
         k += 16;
     }
-    let whole = total + crate::figures::stretch_distance(x, y, k, n);
+    let whole = total + stretch_distance(x, y, k, n);
     if limit < whole {
         return Distance::Beyond(passing(x, y, limit, k, total));
     }

@@ -1,44 +1,26 @@
 // One segment's part in a node's bound, spread and upper figure.
-ghost use Rattle.std.specs.Prelude.{◌≡◌, ◌-◌, ◌/◌, ◌<◌, ◌≤◌, min, max, nat_abs};
-ghost use Rattle.segment.specs.Limits.{sum_room, scatter_room, gap_room, total_room, term_most, width_most};
+ghost use Rattle.std.specs.Prelude.{◌≡◌, ◌-◌, ◌/◌, ◌<◌, ◌≤◌, nat_abs};
+ghost use Rattle.segment.specs.Limits.{sum_room, scatter_room, gap_room, term_most, width_most};
 ghost use Rattle.segment.specs.Roots.{floor_root, ceiling_root};
 ghost use Rattle.segment.specs.Terms.{sum_gap, scatter_gap, bound_term, spread_term};
 ghost use Rattle.segment.specs.Upper.{sum_reach, scatter_reach, upper_term};
 
-// a - b, or 0 where that is below 0
-fn over(a: u64, b: u64) -> u64
-    ensures { result ≡ a - b }
-{
-    if b < a { a - b } else { 0 }
-}
-
-// The larger of two.
-pub fn larger(a: u64, b: u64) -> u64
-    ensures { result ≡ max a b }
-{
-    if a < b { b } else { a }
-}
-
-// The lesser of two.
-fn lesser(a: u64, b: u64) -> u64
-    ensures { result ≡ min a b }
-{
-    if b < a { b } else { a }
-}
+use crate::roots::{ceiling_root, floor_root};
+use segment::figures::square;
 
 // The distance from t to the sums from `least` to `greatest`. The distance to the nearer end does not meet this where t is between them,
-// nor does one that is measured from the end on the other side.
+// nor does one that is measured from the end on the other side. (Of samples it is `segment::ranges::gap`, for the compiler takes several of
+// 32 bits at a time. No type parameter serves both: the library's `abs_diff` is a method of each type.)
 pub fn sum_gap(t: i64, least: i64, greatest: i64) -> u64
-    requires { (nat_abs t ≤ total_room) × (nat_abs least ≤ total_room) × (nat_abs greatest ≤ total_room) }
     ensures { result ≡ sum_gap t least greatest }
 {
     if t < least {
-        return (least - t) as u64;
+        least.abs_diff(t)
+    } else if greatest < t {
+        t.abs_diff(greatest)
+    } else {
+        0
     }
-    if greatest < t {
-        return (t - greatest) as u64;
-    }
-    0
 }
 
 // By how much the floor root of a is over the ceiling root of b. The floor root of b in its place does not meet this: for 9 and 8 it gives
@@ -49,7 +31,7 @@ pub fn root_excess(a: u64, b: u64) -> u64
     if a <= b {
         return 0;
     }
-    over(crate::roots::floor_root(a), crate::roots::ceiling_root(b))
+    floor_root(a).saturating_sub(ceiling_root(b))
 }
 
 // How far a scatter u is from those from `least` to `greatest`, in roots that are rounded so that it is never too much. Where these two are
@@ -59,9 +41,9 @@ pub fn scatter_gap(u: u64, least: u64, greatest: u64) -> u64
     ensures { result ≡ scatter_gap u least greatest }
 {
     if greatest < least {
-        return larger(root_excess(least, u), root_excess(u, greatest));
+        return root_excess(least, u).max(root_excess(u, greatest));
     }
-    root_excess(larger(u, least), lesser(u, greatest))
+    root_excess(u.max(least), u.min(greatest))
 }
 
 // v / w. Segments that come of halving 256 samples are powers of two wide, and a shift then does the division.
@@ -69,12 +51,9 @@ fn quotient(v: u64, w: u64) -> u64
     requires { 0 < w }
     ensures { result ≡ v / w }
 {
-    let s = 63 - u64::leading_zeros(w);
+    let s = w.ilog2();
     let power: u64 = 1 << s;
-    if power == w {
-        return v >> s;
-    }
-    v / w
+    if power == w { v >> s } else { v / w }
 }
 
 // A segment's term of a node's bound, rounded up. Rounded down it does not meet this, nor with one added always.
@@ -108,10 +87,9 @@ pub fn segment_bound(
 // The larger distance from t to the least or the greatest sum: the distance to a range of one number is that to the number. The distance
 // to the nearer end does not meet this.
 pub fn sum_reach(t: i64, least: i64, greatest: i64) -> u64
-    requires { (nat_abs t ≤ total_room) × (nat_abs least ≤ total_room) × (nat_abs greatest ≤ total_room) }
     ensures { result ≡ sum_reach t least greatest }
 {
-    larger(sum_gap(t, least, least), sum_gap(t, greatest, greatest))
+    sum_gap(t, least, least).max(sum_gap(t, greatest, greatest))
 }
 
 // The ceiling roots of the greatest scatter and of u together. The ceiling root of their sum does not meet this.
@@ -119,7 +97,7 @@ pub fn scatter_reach(u: u64, greatest: u64) -> u64
     requires { (u ≤ scatter_room) × (greatest ≤ scatter_room) }
     ensures { result ≡ scatter_reach u greatest }
 {
-    crate::roots::ceiling_root(greatest) + crate::roots::ceiling_root(u)
+    ceiling_root(greatest) + ceiling_root(u)
 }
 
 // A segment's term of a node's upper figure, rounded down. Rounded up it does not meet this.
@@ -156,5 +134,5 @@ pub fn spread_term(w: u64, least_sum: i64, greatest_sum: i64, greatest_scatter: 
     ensures value { result ≡ spread_term w least_sum greatest_sum greatest_scatter }
     ensures size { result ≤ term_most }
 {
-    (segment::figures::square(greatest_sum - least_sum) + greatest_scatter) / w
+    (square(greatest_sum - least_sum) + greatest_scatter) / w
 }

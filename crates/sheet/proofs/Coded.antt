@@ -1,24 +1,22 @@
 -- Samples as bytes: as many for each as a format says, one sample more at a time; and the number whose bytes a sample's are.
-use mathlib.Core.Path.{◌≡◌, refl, sym, ap, ◌∙◌, subst}
-use mathlib.Core.Bool.{true, false}
+use mathlib.Core.Path.{◌≡◌, refl, sym, ap, ap₂, ◌∙◌}
+use mathlib.Core.Bool.{Bool, true, false, cond}
 use mathlib.Core.List.{List, [], ◌∷◌, ◌++◌, flatten, append-nil}
-use Prim.Native.Nat.{ℕ, suc, ◌+◌, ◌*◌, ◌-◌, ◌^◌, ◌≤◌, ◌<◌}
-use native.Mathlib.Nat.{mul_comm}
+use Prim.Native.Nat.{ℕ, suc, ◌+◌, ◌*◌, ◌-◌, ◌/◌, ◌%◌, ◌≤◌, ◌<◌}
+use native.Mathlib.Nat.{mul_comm, mul-add-mod_self_left}
 use native.Mathlib.Numerals.{add-one}
 use native.Mathlib.Omega.{arith}
-use lib.Dec.{T}
-use lib.IntN.{ℤ, pos, negsuc, nat_abs, ◌+ℤ◌}
-use lib.Signed.{lt_z, non_neg, mag}
+use lib.Dec.{ltb}
+use lib.IntN.{ℤ, pos, negsuc}
 use lib.ListN.{length, get_or, take}
 use lib.Seq.{sets, take-suc, length-take-le}
-use mir.Syntax.{w32, w64}
-use mir.Val.{SFits}
-use mir.Facts.{to_z-of_z}
-use borrow.Author.Tests.{ltb-true, ltb-false, le-ltb}
-use Rattle.integer.proofs.Tests.{clash}
-use Rattle.integer.proofs.Width.{read, read_wider, small}
-use Rattle.dstree.specs.Sheet.{bytes_of, Format, narrow, coded, coded_all}
+use mir.Syntax.{w32}
+use mir.Val.{of_z}
+use Rattle.std.specs.Int.{to_le_bytes, int_max}
+use borrow.Author.Tests.{ltb-true, ltb-false}
+use Rattle.dstree.specs.Sheet.{bytes_of, Format, narrow, wide, coded, coded_all}
 use Rattle.dstree.proofs.SheetFields.{codes_append, codes_length}
+use Rattle.sheet.proofs.Numbers.{first_four}
 use Rattle.sheet.proofs.Laid.{sets_append}
 
 module _ (f : Format) where
@@ -49,65 +47,30 @@ module _ (f : Format) where
       ∙ sym (sets_append before z l place)
       ∙ ap (sets l place) (sym (codes_more samples j h))
 
--- ---- the number of a sample below 0
+-- ---- the bytes that the library makes of a sample
 
--- `top` is the greatest number that the bytes say
-module _ (f : Format) (top : ℕ) (tops : 256 ^ f.sample_bytes - 1 ≡ top) where
-  -- the number that one more than it and the sample make
-  record Complement (z : ℤ) : Type 0 where
-    number : ℕ
-    sum : pos (suc top) +ℤ z ≡ pos number
-    most : number ≤ top
-    bytes : bytes_of f.sample_bytes number ≡ coded f z
-
-  complement : (z : ℤ) → lt_z z (pos 0) ≡ true → mag z ≤ top → Complement z
-  unfolding coded
-  complement (pos v) e h = let g = ltb-true v 0 e in absurd (omega arith)
-  complement (negsuc v) e h =
-      record { number = top - v; sum = sums; most = omega arith; bytes = ap (λ (k : ℕ). bytes_of f.sample_bytes (k - v)) (sym tops) }
-    where
-      sums : pos (suc top) +ℤ negsuc v ≡ pos (top - v)
-      sums = rw (le-ltb (suc top) (suc v) (omega arith)) (ap pos (omega arith))
-
-  module _ (z : ℤ) (fits : SFits w32 z) (e : lt_z (read w32 z) (pos 0) ≡ true) (low : mag z ≤ top) (room : top < 2 ^ 40) where
-    c : Complement z
-    c = complement z (subst (λ (x : ℤ). lt_z x (pos 0) ≡ true) (to_z-of_z fits) e) low
-
-    -- as the machine makes it
-    abbrev pub shifted : ℤ
-    shifted = pos (suc top) +ℤ read w64 (read w32 z)
-
-    added_is : shifted ≡ pos c.number
-    added_is = ap (λ (x : ℤ). pos (suc top) +ℤ x) (read_wider {v = w32} w64 tt fits) ∙ c.sum
-
-    pub added_fits : SFits w64 shifted
-    added_fits = subst (SFits w64) (sym added_is) (small {w = w64} {z = pos c.number} (omega (arith, c.most, room)))
-
-    pub read_added : (T (non_neg (read w64 shifted)) × (nat_abs (read w64 shifted) ≤ top)) × (bytes_of f.sample_bytes (nat_abs (read w64 shifted)) ≡ coded f z)
-    read_added =
-        subst (λ (x : ℤ). (T (non_neg x) × (nat_abs x ≤ top)) × (bytes_of f.sample_bytes (nat_abs x) ≡ coded f z)) (sym (to_z-of_z added_fits ∙ added_is))
-        ((tt, c.most), c.bytes)
-
-  -- a sample from 0 on is its own number
-  module _ (z : ℤ) (fits : SFits w32 z) (e : lt_z (read w32 z) (pos 0) ≡ false) where
-    up : (x : ℤ) → lt_z x (pos 0) ≡ false → T (non_neg x) × (nat_abs x ≡ mag x) × (bytes_of f.sample_bytes (nat_abs x) ≡ coded f x)
-    unfolding coded
-    up (pos v) e = (tt, refl, refl)
-    up (negsuc v) e = clash e
-
-    pub own : T (non_neg (read w32 z)) × (nat_abs (read w32 z) ≡ mag z) × (bytes_of f.sample_bytes (nat_abs (read w32 z)) ≡ coded f z)
-    own =
-        subst (λ (x : ℤ). T (non_neg x) × (nat_abs x ≡ mag z) × (bytes_of f.sample_bytes (nat_abs x) ≡ coded f z)) (sym (to_z-of_z fits))
-        (up z (subst (λ (x : ℤ). lt_z x (pos 0) ≡ false) (to_z-of_z fits) e))
-
--- ---- two bytes and a sample beyond 16 bits
-
--- far below 0
-pub far : (z : ℤ) → lt_z z (negsuc 65535) ≡ true → bytes_of 2 0 ≡ coded narrow z
+pub wide_bytes : (z : ℤ) → to_le_bytes w32 (of_z w32 z) ≡ coded wide z
 unfolding coded
-far (pos v) e = clash (sym e)
-far (negsuc v) e = let g = ltb-true 65535 v e in ap (bytes_of 2) (omega arith)
+wide_bytes (pos v) = first_four v
+wide_bytes (negsuc v) =
+    let e : 4294967296 - suc v ≡ 4294967295 - v = omega arith in
+    ap (to_le_bytes w32) e ∙ first_four (4294967295 - v)
 
-pub near : (z : ℤ) → lt_z z (negsuc 65535) ≡ false → lt_z z (pos 0) ≡ true → mag z ≤ 65535
-near (pos v) e g = let k = ltb-true v 0 g in absurd (omega arith)
-near (negsuc v) e g = let k = ltb-false 65535 v e in omega arith
+-- a sample below 0, and whether it is one that two bytes say
+below : (v : ℕ) (b : Bool) → ltb v 65535 ≡ b
+    → take 2 (to_le_bytes w32 (of_z w32 (cond b (negsuc v) (negsuc 65535)))) ≡ bytes_of 2 (65535 - v)
+unfolding bytes_of
+below v true e =
+    let h = ltb-true v 65535 e in
+    let more : (4294967296 - suc v) / 256 ≡ 256 * 65535 + (65535 - v) / 256 = omega arith in
+    ap₂ (λ (x y : ℕ). x ∷ y ∷ []) (omega arith) (ap (λ (k : ℕ). k % 256) more ∙ mul-add-mod_self_left 256 65535 ((65535 - v) / 256))
+below v false e =
+    let h = ltb-false v 65535 e in
+    let z : 65535 - v ≡ 0 = omega arith in
+    rw z refl
+
+-- far below 0, two bytes are zeros
+pub narrow_bytes : (z : ℤ) → take 2 (to_le_bytes w32 (of_z w32 (int_max z (negsuc 65535)))) ≡ coded narrow z
+unfolding coded bytes_of
+narrow_bytes (pos v) = refl
+narrow_bytes (negsuc v) = below v (ltb v 65535) refl

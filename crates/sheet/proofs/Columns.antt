@@ -44,6 +44,20 @@ added_more (x ∷ xs) (y ∷ ys) zero h k = ap (λ (l : List ℕ). (x + y) ∷ l
 added_more (x ∷ xs) (y ∷ ys) (suc j) h k =
     ap (λ (l : List ℕ). (x + y) ∷ l) (added_more xs ys j (le_of_suc-le-suc h) (le_of_suc-le-suc k))
 
+-- a column before its turn is as it was
+module _ {sums later : List ℕ} (p : ColumnSums sums later) where
+  pub column_sum : (row : List ℕ) (j : ℕ) {now : List ℕ} → now ≡ added_up sums (take j row)
+      → (get_or now j 0 ≡ get_or sums j 0) × (get_or now j 0 ≤ most_sum)
+  column_sum row j e =
+      let is = ap (λ (xs : List ℕ). get_or xs j 0) e ∙ added_at sums row j in
+      (is, omega (arith, is, p.sums_small j))
+
+  pub column_later : (old : List ℕ) (j : ℕ) {now : List ℕ} → now ≡ added_up later (take j old)
+      → (get_or now j 0 ≡ get_or later j 0) × (get_or now j 0 ≤ most_later)
+  column_later old j e =
+      let is = ap (λ (xs : List ℕ). get_or xs j 0) e ∙ added_at later old j in
+      (is, omega (arith, is, p.later_small j))
+
 pub total_added : (xs ys : List ℕ) → length ys ≤ length xs → total (added_up xs ys) ≡ total xs + total ys
 unfolding added_up total
 total_added [] [] h = refl

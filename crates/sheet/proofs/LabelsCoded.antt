@@ -1,15 +1,18 @@
 -- Labels as bytes: six for each, one label more at a time; and six bytes are two and four.
-use mathlib.Core.Path.{◌≡◌, sym, ap, ap₂, ◌∙◌}
+use mathlib.Core.Path.{◌≡◌, refl, sym, ap, ap₂, ◌∙◌}
 use mathlib.Core.List.{List, [], ◌∷◌, ◌++◌, map, flatten, append-nil}
-use Prim.Native.Nat.{ℕ, ◌+◌, ◌*◌, ◌≤◌, ◌<◌}
+use Prim.Native.Nat.{ℕ, ◌+◌, ◌*◌, ◌/◌, ◌%◌, ◌≤◌, ◌<◌}
+use native.Mathlib.Nat.{mul-add-mod_self_left}
 use native.Mathlib.Numerals.{add-one}
 use native.Mathlib.Omega.{arith}
+use mir.Syntax.{w64}
+use Rattle.std.specs.Int.{to_le_bytes}
 use lib.ListN.{length, get_or, take, drop, length-map}
 use lib.Seq.{sets, take-suc, length-take-le}
 use Rattle.integer.proofs.Lists.{map_take, flat_append}
 use Rattle.integer.proofs.Rows.{map_append}
 use Rattle.dstree.specs.Labels.{Label, label_place, label_at}
-use Rattle.dstree.specs.Sheet.{part, number_in, label_cells, label_bytes, label_in}
+use Rattle.dstree.specs.Sheet.{part, number_in, bytes_of, label_cells, label_bytes, label_in}
 use Rattle.dstree.proofs.SheetFields.{row_length, row_part}
 use Rattle.dstree.proofs.SheetLabels.{label_length, said_place}
 use Rattle.dstree.proofs.SheetPieces.{part_part, part_length}
@@ -63,3 +66,35 @@ six_is l place h =
     said_place (part place 6 l) (part_length place 6 l h)
     ∙ ap₂ (λ (a b : List ℕ). number_in a + 65536 * number_in b)
     (part_part 0 2 place 6 l (omega arith) ∙ ap (λ (k : ℕ). part k 2 l) e) (part_part 2 4 place 6 l (omega arith))
+
+-- ---- the first six of the eight bytes that the library makes of a label's number
+
+low : (q r : ℕ) {x : ℕ} → x ≡ 256 * q + r → x % 256 ≡ r % 256
+low q r e = ap (λ (k : ℕ). k % 256) e ∙ mul-add-mod_self_left 256 q r
+
+-- the bytes of the serial, in what is left of a number behind the code
+module _ (w : ℕ) where
+  abbrev serial : ℕ
+  serial = w % 4294967296
+
+  second : w / 256 % 256 ≡ serial / 256 % 256
+  second = low (65536 * (w / 4294967296)) (serial / 256) (omega arith)
+
+  third : w / 65536 % 256 ≡ serial / 256 / 256 % 256
+  third = low (256 * (w / 4294967296)) (serial / 256 / 256) (omega arith)
+
+  fourth : w / 16777216 % 256 ≡ serial / 256 / 256 / 256 % 256
+  fourth = low (w / 4294967296) (serial / 256 / 256 / 256) (omega arith)
+
+pub first_six : (v : ℕ) → take 6 (to_le_bytes w64 v) ≡ label_bytes (label_at v)
+unfolding bytes_of label_bytes label_at
+first_six v =
+    let w = v / 65536 in
+    let one : v % 256 ≡ v % 65536 % 256 = omega arith in
+    let two : v / 256 % 256 ≡ v % 65536 / 256 % 256 = low (v / 65536) (v % 65536 / 256) (omega arith) in
+    let three : w % 256 ≡ w % 4294967296 % 256 = omega arith in
+    let at : (k m : ℕ) → k ≡ m → k % 256 ≡ m % 256 = λ k m e. ap (λ (x : ℕ). x % 256) e in
+    let four = at (v / 16777216) (w / 256) (omega arith) ∙ second w in
+    let five = at (v / 4294967296) (w / 65536) (omega arith) ∙ third w in
+    let six = at (v / 1099511627776) (w / 16777216) (omega arith) ∙ fourth w in
+    ap₂ ◌∷◌ one (ap₂ ◌∷◌ two (ap₂ ◌∷◌ three (ap₂ ◌∷◌ four (ap₂ ◌∷◌ five (ap₂ ◌∷◌ six refl)))))

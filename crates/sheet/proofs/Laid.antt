@@ -1,12 +1,11 @@
 -- How a block comes about: bytes put one behind another over zeros, then the check behind 510 of them.
 use mathlib.Core.Path.{◌≡◌, refl, sym, ap, ◌∙◌}
 use mathlib.Core.List.{List, [], ◌∷◌, ◌++◌, append_assoc, append-nil}
-use Prim.Native.Nat.{ℕ, zero, suc, ◌+◌, ◌-◌, ◌≤◌, ◌<◌}
+use Prim.Native.Nat.{ℕ, zero, suc, ◌+◌, ◌-◌, ◌≤◌}
 use native.Mathlib.Nat.{add-zero, le_refl}
-use native.Mathlib.Numerals.{add-one}
 use native.Mathlib.Omega.{arith}
-use lib.ListN.{length, get_or, take, drop, set, replicate, length-append, length-replicate, replicate-append-replicate, drop_of_length-le}
-use lib.Seq.{sets, sets-eq, take_at, take-suc, take-suc-set, take-take, drop-append-add, length-take-le}
+use lib.ListN.{length, take, drop, set, replicate, length-append, length-replicate, replicate-append-replicate, drop_of_length-le}
+use lib.Seq.{sets, sets-eq, take_at, take-take, drop-append-add}
 use Rattle.dstree.proofs.SheetFields.{bytes_length}
 use Rattle.dstree.proofs.SheetBlocks.{check_front}
 use Rattle.dstree.specs.Sheet.{bytes_of, filled_to, block_size, checked_size, carried_size, check_of, sealed, block, letters, measure_bytes, head_of}
@@ -22,25 +21,7 @@ module _ {A : Type 0} where
       let e : suc i + length a ≡ i + suc (length a) = omega arith in
       sets_append a b (set l i x) (suc i) ∙ ap (λ (k : ℕ). sets (sets (set l i x) (suc i) a) k b) e
 
-  -- what holds of a loop that stores a list's elements one by one: after j of them
-  pub sets_more : (l : List A) (i : ℕ) (new : List A) (j : ℕ) (d : A) → j < length new
-      → set (sets l i (take j new)) (i + j) (get_or new j d) ≡ sets l i (take (j + 1) new)
-  sets_more l i new j d h =
-      let e : length (take j new) ≡ j = length-take-le j new (omega arith) in
-      let f : take (j + 1) new ≡ take j new ++ (get_or new j d ∷ []) = ap (λ (k : ℕ). take k new) (add-one j) ∙ take-suc new j d h in
-      ap (λ (k : ℕ). set (sets l i (take j new)) (i + k) (get_or new j d)) (sym e)
-      ∙ sym (ap (sets l i) f ∙ sets_append (take j new) (get_or new j d ∷ []) l i)
-
 -- ---- zeros
-
--- what holds of a loop that zeroes, before its turn i
-abbrev pub Zeroing : List ℕ → List ℕ → ℕ → Type 0
-Zeroing l₀ l i = (i ≤ length l₀) × (take i l ≡ replicate i 0) × (length l ≡ length l₀)
-
-pub zero_turn : (l : List ℕ) (i : ℕ) → i < length l → take i l ≡ replicate i 0 → take (i + 1) (set l i 0) ≡ replicate (i + 1) 0
-zero_turn l i h e =
-    ap (λ (k : ℕ). take k (set l i 0)) (add-one i) ∙ take-suc-set l i 0 h ∙ ap (λ (f : List ℕ). f ++ (0 ∷ [])) e
-    ∙ replicate-append-replicate i 1 0
 
 drop_zeros : (k n : ℕ) → drop k (replicate n 0) ≡ replicate {A = ℕ} (n - k) 0
 drop_zeros zero n = ap (λ (m : ℕ). replicate m 0) (sym_minus n)

@@ -5,13 +5,13 @@ ghost use Rattle.std.proofs.lemmas.List.Edits.{sets};
 ghost use Rattle.dstree.specs.Measures.{measures};
 ghost use Rattle.dstree.specs.Sheet.{bytes_of, filled_to, block_size, checked_size, sealed, block, measure_bytes, head_of, coded_all};
 ghost use Rattle.dstree.specs.Sheet.{label_cells, label_kind};
-ghost use Rattle.dstree.specs.SheetWidths.{format_by};
 ghost use Rattle.segment.specs.Stored.{samples_of};
+ghost use Rattle.sheet.specs.Formats.{format_by, kind_by};
 ghost use Rattle.sheet.specs.LabelCodes.{label_codes};
 
 use crate::check::check_of;
 use crate::fields::{put_bytes, put_two};
-use crate::formats::{head_kind, sample_kind};
+use crate::formats::{BlockKind, Format};
 use crate::labels::put_labels;
 use crate::letters::LETTERS;
 use crate::samples::put_samples;
@@ -21,21 +21,17 @@ use segment::Word;
 fn zero(part: &mut [u8])
     ensures { part.new ≡ replicate (length part.old) 0 }
 {
-    let mut place = 0;
-    while place < part.len() {
-        part[place] = 0;
-        place += 1;
-    }
+    part.fill(0);
 }
 
 // Number and kind, and nothing else yet.
-fn begin(part: &mut [u8], number: u16, kind: u8)
+fn begin(part: &mut [u8], number: u16, kind: BlockKind)
     requires { length part.old ≡ block_size }
-    ensures { part.new ≡ filled_to block_size (bytes_of 2 number ++ (kind ∷ 0 ∷ [])) }
+    ensures { part.new ≡ filled_to block_size (bytes_of 2 number ++ (kind_by kind ∷ 0 ∷ [])) }
 {
     zero(part);
     put_two(part, 0, number);
-    part[2] = kind;
+    part[2] = u8::from(kind);
 }
 
 // The check behind the 510 bytes before it.
@@ -59,24 +55,31 @@ fn put_measures(part: &mut [u8], n: u16, capacity: u16, leaf_size: u16, count: u
 }
 
 // Block 0: the letters, the measures and the number of traces.
-pub fn write_head(part: &mut [u8], n: u16, capacity: u16, leaf_size: u16, count: u16, four: bool)
+pub fn write_head(
+    part: &mut [u8],
+    n: u16,
+    capacity: u16,
+    leaf_size: u16,
+    count: u16,
+    format: Format,
+)
     requires { length part.old ≡ block_size }
-    ensures { part.new ≡ block (format_by four).head_kind 0 (head_of (measures n capacity leaf_size) count) }
+    ensures { part.new ≡ block (format_by format).head_kind 0 (head_of (measures n capacity leaf_size) count) }
 {
-    begin(part, 0, head_kind(four));
+    begin(part, 0, BlockKind::Head(format));
     put_bytes(part, 4, &LETTERS);
     put_measures(part, n, capacity, leaf_size, count);
     seal(part);
 }
 
 // Another block: the samples of words from byte 4 on, at most as many as a block carries.
-pub fn write_samples(part: &mut [u8], number: u16, words: &[Word], four: bool)
-    requires { (length part.old ≡ block_size) × (length words.now ≤ (format_by four).samples_per_block) }
+pub fn write_samples(part: &mut [u8], number: u16, words: &[Word], format: Format)
+    requires { (length part.old ≡ block_size) × (length words.now ≤ (format_by format).samples_per_block) }
     ensures { part.new
-        ≡ block (format_by four).sample_kind number (coded_all (format_by four) (samples_of words.now)) }
+        ≡ block (format_by format).sample_kind number (coded_all (format_by format) (samples_of words.now)) }
 {
-    begin(part, number, sample_kind(four));
-    put_samples(part, 4, words, four);
+    begin(part, number, BlockKind::Samples(format));
+    put_samples(part, 4, words, format);
     seal(part);
 }
 
@@ -85,7 +88,7 @@ pub fn write_labels(part: &mut [u8], number: u16, labels: &[u64])
     requires { (length part.old ≡ block_size) × (length labels.now ≤ label_cells.cells_per_block) }
     ensures { part.new ≡ block label_kind number (label_codes labels.now) }
 {
-    begin(part, number, 5);
+    begin(part, number, BlockKind::Labels);
     put_labels(part, 4, labels);
     seal(part);
 }

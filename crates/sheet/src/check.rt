@@ -13,11 +13,9 @@ fn add_row(row: &[u8], sums: &mut [u16], later: &mut [u16])
     ensures { (sums.new ≡ added_up sums.old row.now)
         × (later.new ≡ added_up later.old (take (length row.now) sums.old)) }
 {
-    let mut j = 0;
-    while j < row.len() {
+    for (j, byte) in row.iter().enumerate() {
         later[j] += sums[j];
-        sums[j] += row[j] as u16;
-        j += 1;
+        sums[j] += u16::from(*byte);
     }
 }
 
@@ -26,7 +24,7 @@ fn weight(column: usize, sum: u16, later: u16) -> u32
     requires { (column < columns) × (sum ≤ most_sum) × (later ≤ most_later) }
     ensures { (result ≡ (column + 1) * sum + columns * later) × (result ≤ column_weight) }
 {
-    (column as u32 + 1) * (sum as u32) + 64 * (later as u32)
+    (column as u32 + 1) * u32::from(sum) + 64 * u32::from(later)
 }
 
 fn weigh(sums: &[u16], later: &[u16]) -> u32
@@ -34,10 +32,8 @@ fn weigh(sums: &[u16], later: &[u16]) -> u32
     ensures { result ≡ weighted 0 sums.now + columns * total later.now }
 {
     let mut total: u32 = 0;
-    let mut j = 0;
-    while j < 64 {
+    for j in 0..64 {
         total += weight(j, sums[j], later[j]);
-        j += 1;
     }
     total
 }
@@ -50,10 +46,8 @@ pub fn check_of(block: &[u8]) -> u64
 {
     let mut sums = [0u16; 64];
     let mut later = [0u16; 64];
-    let mut row: usize = 7;
     add_row(&block[448..510], &mut sums, &mut later);
-    while 0 < row {
-        row -= 1;
+    for row in (0..7).rev() {
         add_row(&block[64 * row..64 * row + 64], &mut sums, &mut later);
     }
     (weigh(&sums, &later) % 65521) as u64

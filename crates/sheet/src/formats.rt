@@ -1,56 +1,68 @@
-// The two formats of a sheet, by whether a sample takes four bytes, as on a wide sheet, or two.
+// The two formats of a sheet, and the kinds of its blocks.
 
 ghost use Rattle.std.specs.Prelude.{◌≡◌, ◌^◌, ◌≤◌};
 ghost use Rattle.dstree.specs.Sheet.{sample_cells, cell_blocks_needed};
-ghost use Rattle.dstree.specs.SheetWidths.{format_by};
+ghost use Rattle.sheet.specs.Formats.{format_by, kind_by};
 
-// The bytes that a sample takes.
-pub fn sample_bytes(four: bool) -> usize
-    ensures value { result ≡ (format_by four).sample_bytes }
-    ensures size { (2 ≤ result) × (result ≤ 4) }
-{
-    if four {
-        return 4;
-    }
-    2
+// Whether a sample takes two bytes, or four, as on a wide sheet.
+#[derive(Clone, Copy)]
+pub enum Format {
+    Narrow,
+    Wide,
 }
 
-// The samples that a block carries.
-pub fn block_samples(four: bool) -> usize
-    ensures value { result ≡ (format_by four).samples_per_block }
-    ensures size { (126 ≤ result) × (result ≤ 253) }
-{
-    if four {
-        return 126;
+impl Format {
+    // The bytes that a sample takes.
+    pub fn sample_bytes(self) -> usize
+        ensures value { result ≡ (format_by self).sample_bytes }
+        ensures size { (2 ≤ result) × (result ≤ 4) }
+    {
+        match self {
+            Format::Narrow => 2,
+            Format::Wide => 4,
+        }
     }
-    253
+
+    // The samples that a block carries.
+    pub fn block_samples(self) -> usize
+        ensures value { result ≡ (format_by self).samples_per_block }
+        ensures size { (126 ≤ result) × (result ≤ 253) }
+    {
+        match self {
+            Format::Narrow => 253,
+            Format::Wide => 126,
+        }
+    }
+
+    // The blocks that so many samples need: rounded up.
+    pub fn blocks_for(self, samples: usize) -> usize
+        requires { samples ≤ 2 ^ 20 }
+        ensures { result ≡ cell_blocks_needed (sample_cells (format_by self)) samples }
+    {
+        let each = self.block_samples();
+        (samples + (each - 1)) / each
+    }
 }
 
-// The blocks that so many samples need: rounded up.
-pub fn blocks_for(samples: usize, four: bool) -> usize
-    requires { samples ≤ 2 ^ 20 }
-    ensures { result ≡ cell_blocks_needed (sample_cells (format_by four)) samples }
-{
-    let each = block_samples(four);
-    (samples + (each - 1)) / each
+// What a block carries. Block 0 is the head.
+#[derive(Clone, Copy)]
+pub enum BlockKind {
+    Head(Format),
+    Samples(Format),
+    Labels,
 }
 
-// The kind of block 0.
-pub fn head_kind(four: bool) -> u8
-    ensures { result ≡ (format_by four).head_kind }
-{
-    if four {
-        return 3;
-    }
-    1
-}
+// The number that says it, byte 2 of a block.
+impl From<BlockKind> for u8 {
+    ghost from_gives = { λ kind number. number ≡ kind_by kind };
 
-// The kind of a block of samples.
-pub fn sample_kind(four: bool) -> u8
-    ensures { result ≡ (format_by four).sample_kind }
-{
-    if four {
-        return 4;
+    fn from(kind: BlockKind) -> u8 {
+        match kind {
+            BlockKind::Head(Format::Narrow) => 1,
+            BlockKind::Samples(Format::Narrow) => 2,
+            BlockKind::Head(Format::Wide) => 3,
+            BlockKind::Samples(Format::Wide) => 4,
+            BlockKind::Labels => 5,
+        }
     }
-    2
 }

@@ -5,14 +5,14 @@ use mathlib.Core.Bool.{Bool, true, false, ◌&&◌}
 use mathlib.Core.List.{List, [], ◌∷◌, ◌++◌, map, flatten}
 use native.Mathlib.Omega.{arith}
 use native.Mathlib.Nat.{mul_comm}
-use lib.ListN.{length, get_or, drop}
+use lib.ListN.{get_or, drop}
 use lib.Dec.{eqb}
 use borrow.Author.Tests.{eq-eqb, ne_eqb}
 use Rattle.integer.specs.Words.{every}
 use Rattle.dstree.specs.Sheet.{block_size, checked_size, carried_size, Format, part, are_zero, thirds_in, blocks_in, carried_in, sample_blocks_in}
 use Rattle.dstree.specs.Sheet.{label_blocks_in, sample_cells, label_cells, cells_size, cell_bytes_in, zeros_behind, zeros_in}
 use Rattle.sheet_blocks.specs.Blocks.{block_count, InBlocks, block_at, later_blocks, label_start, spare_between, zeros_between}
-use Rattle.dstree.proofs.SheetPieces.{part_part, drop_part, part_at, part_cons, part_none}
+use Rattle.dstree.proofs.SheetPieces.{part_part, drop_part, part_at}
 use Rattle.sheet_blocks.proofs.Places.{all_blocks, next_block, no_block, blocks_are, samples_between, labels_between}
 
 and_assoc : (a b c : Bool) → (a && (b && c)) ≡ ((a && b) && c)
@@ -23,22 +23,6 @@ pub zero_append : (a b : List ℕ) → are_zero (a ++ b) ≡ (are_zero a && are_
 unfolding are_zero every
 zero_append [] b = refl
 zero_append (x ∷ a) b = ap (λ (t : Bool). eqb x 0 && t) (zero_append a b) ∙ and_assoc (eqb x 0) (are_zero a) (are_zero b)
-
--- ---- from one place to another
-
-module _ (bytes : List ℕ) (place to : ℕ) where
-  pub zero_here : place < to → to ≤ length bytes → (get_or bytes place 0 ≡ 0 → ⊥) → are_zero (part place (to - place) bytes) ≡ false
-  unfolding are_zero every
-  zero_here h k f = rw (part_cons place to bytes 0 h (omega arith), ne_eqb (get_or bytes place 0) 0 f)
-
-  pub zero_later : place < to → to ≤ length bytes → get_or bytes place 0 ≡ 0
-      → are_zero (part place (to - place) bytes) ≡ are_zero (part (suc place) (to - suc place) bytes)
-  unfolding are_zero every
-  zero_later h k e = rw (part_cons place to bytes 0 h (omega arith), eq-eqb (get_or bytes place 0) 0 e)
-
-  pub zero_end : to ≤ place → are_zero (part place (to - place) bytes) ≡ true
-  unfolding are_zero every
-  zero_end h = rw (part_none place to bytes h)
 
 -- ---- byte 3 of each block
 

@@ -1,46 +1,12 @@
--- The letters one after another, and the fields of block 0.
-use Prim.Native.Nat.{ℕ, suc, ◌+◌, ◌-◌, ◌≤◌, ◌<◌}
+-- The fields of block 0.
+use Prim.Native.Nat.{ℕ, ◌+◌, ◌≤◌}
 use mathlib.Core.Path.{◌≡◌, sym, ◌∙◌, ap}
-use mathlib.Core.Bool.{Bool, true, false}
-use mathlib.Core.List.{List, ◌∷◌}
+use mathlib.Core.List.{List}
 use native.Mathlib.Omega.{arith}
-use lib.ListN.{length, get_or, drop}
-use lib.Seq.{drop-cons}
-use borrow.Author.Tests.{eq-eqb, ne_eqb}
-use Rattle.integer.specs.Words.{same}
-use Rattle.dstree.specs.Sheet.{block_size, part, number_in, letters, measures_in, count_in}
+use Rattle.dstree.specs.Sheet.{block_size, part, number_in, measures_in, count_in}
 use Rattle.sheet_blocks.specs.Blocks.{block_at}
 use Rattle.sheet_judging.specs.HeadBlock.{HeadSays}
-use Rattle.dstree.proofs.SheetPieces.{part_part, part_cons}
-
--- ---- letters
-
-module _ (bytes : List ℕ) (room : 8 ≤ length bytes) (i : ℕ) where
-  -- from the letter i on
-  abbrev letters_from : ℕ → Bool
-  letters_from k = same (part (4 + k) (8 - (4 + k)) bytes) (drop k letters)
-
-  opened : i < 4
-      → (part (4 + i) (8 - (4 + i)) bytes ≡ get_or bytes (4 + i) 0 ∷ part (4 + suc i) (8 - (4 + suc i)) bytes)
-      × (drop i letters ≡ get_or letters i 0 ∷ drop (suc i) letters)
-  unfolding letters
-  opened h =
-      let e : suc (4 + i) ≡ 4 + suc i = omega arith in
-      (part_cons (4 + i) 8 bytes 0 (omega arith) (omega arith) ∙ ap (λ (k : ℕ). get_or bytes (4 + i) 0 ∷ part k (8 - k) bytes) e, drop-cons letters i 0 h)
-
-  pub letter_wrong : i < 4 → (get_or bytes (4 + i) 0 ≡ get_or letters i 0 → ⊥) → letters_from i ≡ false
-  unfolding same
-  letter_wrong h f = rw ((opened h).0, (opened h).1, ne_eqb (get_or bytes (4 + i) 0) (get_or letters i 0) f)
-
-  pub letter_right : i < 4 → get_or bytes (4 + i) 0 ≡ get_or letters i 0 → letters_from i ≡ letters_from (suc i)
-  unfolding same
-  letter_right h e = rw ((opened h).0, (opened h).1, eq-eqb (get_or bytes (4 + i) 0) (get_or letters i 0) e)
-
-  pub letters_end : i ≤ 4 → 4 ≤ i → letters_from i ≡ true
-  unfolding same letters
-  letters_end h k = let e : i ≡ 4 = omega arith in rw e
-
--- ---- fields
+use Rattle.dstree.proofs.SheetPieces.{part_part}
 
 -- a field of block 0 is the sheet's
 module _ (bytes : List ℕ) where

@@ -30,12 +30,10 @@ fn labels_zero(sheet: &[u8], start: usize, count: usize) -> bool
     requires { InBlocks sheet.now × (start ≡ label_start sheet.now) × (count ≤ most_traces) × HaveRoom sheet.now count }
     ensures { result ≡ are_zero_labels (labels_in_blocks count (label_blocks sheet.now)) }
 {
-    let mut i = 0;
-    while i < count {
+    for i in 0..count {
         if read_label(sheet, start, i) != 0 {
             return false;
         }
-        i += 1;
     }
     true
 }

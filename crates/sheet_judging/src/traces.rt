@@ -5,37 +5,43 @@ ghost use Rattle.std.proofs.Math.Option.{none};
 ghost use Rattle.segment.specs.Limits.{sample_most, SamplesWithin};
 ghost use Rattle.segment.specs.Stored.{samples_of, words_of};
 ghost use Rattle.dstree.specs.Refusals.{first_of};
-ghost use Rattle.dstree.specs.SheetWidths.{format_by, sheet_conditions};
+ghost use Rattle.dstree.specs.SheetWidths.{sheet_conditions};
+ghost use Rattle.sheet.specs.Formats.{format_by, says_wide};
 ghost use Rattle.sheet_blocks.specs.Blocks.{InBlocks, label_start};
 ghost use Rattle.sheet_blocks.specs.Traces.{size_of, count_of, sheet_traces, sample_number, IsAt, samples_from};
 
 use segment::Word;
-use sheet::formats::sample_bytes;
+use sheet::formats::Format;
 use sheet::samples::copy_samples;
-use sheet_blocks::blocks::{Cursor, is_wide};
+use sheet_blocks::blocks::{Cursor, format_in};
 
-// As many samples as there are places, from the cursor on; and the cursor behind them. They are read by stretches, each in one block.
-pub fn read_samples(sheet: &[u8], from: Cursor, places: &mut [Word], four: bool) -> Cursor
+// As many samples as there are places, from the cursor on; and the cursor behind them. They are read by stretches, each in one block;
+// how long a stretch is shows in its turn, so that no range counts them.
+pub fn read_samples(sheet: &[u8], from: Cursor, places: &mut [Word], format: Format) -> Cursor
     requires { InBlocks sheet.now
-        × IsAt (format_by four) from.number from.used (sample_number (format_by four) from.number from.used)
-        × (sample_number (format_by four) from.number from.used + length places.old
-        ≤ (label_start sheet.now - 1) * (format_by four).samples_per_block)
-        × (four ≡ true → SamplesWithin sample_most
-        (samples_from (format_by four) sheet.now (sample_number (format_by four) from.number from.used) (length places.old))) }
-    ensures { (places.new ≡ words_of (samples_from (format_by four) sheet.now
-        (sample_number (format_by four) from.number from.used) (length places.old)))
-        × IsAt (format_by four) result.number result.used
-        (sample_number (format_by four) from.number from.used + length places.old) }
+        × IsAt (format_by format) from.number from.used (sample_number (format_by format) from.number from.used)
+        × (sample_number (format_by format) from.number from.used + length places.old
+        ≤ (label_start sheet.now - 1) * (format_by format).samples_per_block)
+        × (says_wide format ≡ true → SamplesWithin sample_most
+        (samples_from (format_by format) sheet.now (sample_number (format_by format) from.number from.used) (length places.old))) }
+    ensures { (places.new ≡ words_of (samples_from (format_by format) sheet.now
+        (sample_number (format_by format) from.number from.used) (length places.old)))
+        × IsAt (format_by format) result.number result.used
+        (sample_number (format_by format) from.number from.used + length places.old) }
 {
     let n = places.len();
-    let size = sample_bytes(four);
+    let size = format.sample_bytes();
     let mut cursor = from;
     let mut i = 0;
     while i < n {
-        let k = cursor.stretch(n - i, four);
-        let place = cursor.place(four);
-        copy_samples(&sheet[place..place + size * k], &mut places[i..i + k], four);
-        cursor = cursor.pass(k, four);
+        let k = cursor.stretch(n - i, format);
+        let place = cursor.place(format);
+        copy_samples(
+            &sheet[place..place + size * k],
+            &mut places[i..i + k],
+            format,
+        );
+        cursor = cursor.pass(k, format);
         i += k;
     }
     cursor
@@ -47,7 +53,7 @@ pub fn read_trace(sheet: &[u8], number: usize, trace: &mut [Word])
         × (length trace.old ≡ size_of sheet.now) }
     ensures { samples_of trace.new ≡ get_or (sheet_traces sheet.now) number [] }
 {
-    let four = is_wide(sheet);
-    let from = Cursor::at_sample(number * trace.len(), four);
-    read_samples(sheet, from, trace, four);
+    let format = format_in(sheet);
+    let from = Cursor::at_sample(number * trace.len(), format);
+    read_samples(sheet, from, trace, format);
 }

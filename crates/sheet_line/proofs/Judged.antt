@@ -1,5 +1,5 @@
 -- What the conditions say of the program's line: a refusal's, or that of the last trace's match among the earlier ones.
-use Rattle.std.specs.Prelude.{if◌then◌else◌}
+use Rattle.std.specs.Prelude.{Err, if◌then◌else◌}
 use Prim.Native.Nat.{ℕ, ◌+◌, ◌*◌, ◌-◌, ◌≤◌}
 use mathlib.Core.Path.{◌≡◌, refl, sym, ◌∙◌, ap}
 use mathlib.Core.Bool.{Bool, true, false, ◌||◌}
@@ -20,10 +20,8 @@ use Rattle.dstree.specs.Program.{Line, refusal_line, line_of, program_most, most
 use Rattle.dstree.specs.Book.{Lent}
 use Rattle.tables.specs.Answers.{found_by}
 use Rattle.tables.specs.declared.Refusal.{Refusal as Word}
-use Rattle.tables.specs.declared.Verdict.TheVariants as v
 use Rattle.tables.specs.Judge.{LongEnough}
 use Rattle.dstree.proofs.Conditions.{none_first, first_some, first_none, none_both}
-use Rattle.matching.specs.declared.Found.TheVariants as f
 use Rattle.sheet_blocks.specs.Traces.{count_of, sheet_traces, sheet_labels}
 use Rattle.sheet_judging.proofs.Samples.{range, fine as good}
 use Rattle.sheet_reading.proofs.Ends.{said, judged_holds}
@@ -87,7 +85,7 @@ module _ (bytes : List ℕ) where
       by false e = e
 
   -- what is refused
-  pub refused_line : (why : Word) → found_by (v.Refused why) ≡ first_of (program_conditions bytes) → line_by (f.Refused why) ≡ program_line bytes
+  pub refused_line : (why : Word) → found_by (Err why) ≡ first_of (program_conditions bytes) → line_by (Err why) ≡ program_line bytes
   unfolding found_by line_by line_unless
   refused_line why e = ap unless e ∙ sym program_line_lem
 

@@ -18,7 +18,7 @@ use Rattle.insertion_memory.proofs.Made.{Holds, count_is}
 use Rattle.calls.proofs.Searches.{seen_is}
 use Rattle.search.specs.Searched.{match_by, Ready}
 use Rattle.search.proofs.Facts.{leaves_most}
-use Rattle.matching.specs.declared.Found.TheVariants as f
+use Rattle.std.specs.Prelude.{Ok}
 use Rattle.sheet_line.specs.Lines.{line_by}
 
 module _ (t : Tables) (m : Measures) (earlier : List Trace) (query : Trace) (h : Holds t m earlier)
@@ -43,6 +43,6 @@ module _ (t : Tables) (m : Measures) (earlier : List Trace) (query : Trace) (h :
 
   pub found_line : (trace distance out traces : ℕ) (trail : List ℕ)
       → match_by trace distance out traces trail ≡ (let s = searched (traces_in t) (tree_in t) query in match_seen s s.best)
-      → line_by (f.At trace distance out traces) ≡ line_of m earlier query
+      → line_by (Ok (record { trace = trace; distance = distance; leaves = out; traces = traces })) ≡ line_of m earlier query
   unfolding line_by line_of match_line
   found_line trace distance out traces trail e = ap match_line (e ∙ found_is)

@@ -1,15 +1,15 @@
 -- The line of an answer, and where it is written.
-use Rattle.std.specs.Prelude.{ℕ, List, length, ltb, if◌then◌else◌}
+use Rattle.std.specs.Prelude.{ℕ, List, Result, Ok, Err, length, ltb, if◌then◌else◌}
 use Rattle.dstree.specs.Program.{Line, found, refusal_line, printed}
 use Rattle.tables.specs.Answers.{word_of}
 use Rattle.tables.specs.Beginning.{over}
 use Rattle.matching.specs.declared.Found.{Found}
-use Rattle.matching.specs.declared.Found.TheVariants as f
+use Rattle.tables.specs.declared.Refusal.{Refusal}
 
 -- "trace, distance, leaves, traces read", or a refusal
-unfoldable pub line_by : Found → Line
-line_by (f.At trace distance leaves traces) = found trace distance leaves traces
-line_by (f.Refused why) = refusal_line (word_of why)
+unfoldable pub line_by : Result Found Refusal → Line
+line_by (Ok seen) = found seen.trace seen.distance seen.leaves seen.traces
+line_by (Err why) = refusal_line (word_of why)
 
 -- the longest line that four 64-bit numbers make: 20 digits each, and a space or the line's end behind each
 abbrev pub line_room : ℕ

@@ -1,6 +1,6 @@
 // The match of a sheet's last trace among the earlier ones.
 
-ghost use Rattle.std.specs.Prelude.{◌≡◌, [], ◌≤◌, length, take, get_or};
+ghost use Rattle.std.specs.Prelude.{◌≡◌, [], ◌≤◌, length, take, get_or, Ok};
 ghost use Rattle.std.proofs.Math.Option.{none};
 ghost use Rattle.dstree.specs.Measures.{records_needed};
 ghost use Rattle.dstree.specs.Refusals.{first_of};
@@ -16,67 +16,46 @@ ghost use Rattle.sheet_line.specs.Stored.{EarlierStored, Roomy, most};
 use loading::{Source, load};
 use matching::Found;
 use opening::put_empty;
+use search::stored::Stored;
 use segment::Word;
 use sheet_judging::contents::head_of;
 use sheet_judging::traces::read_trace;
 
 // The match of the last trace among those that the tables hold. `query` is a place for its samples, as words.
 fn match_query(
-    control: &[u16],
-    samples: &[Word],
-    nodes: &[i64],
-    links: &[u16],
+    stored: Stored,
     work: &mut [u64],
     trail: &mut [u16],
     sheet: &[u8],
     last: usize,
     query: &mut [Word],
 ) -> Found
-    requires { EarlierStored control.now samples.now nodes.now links.now work.old sheet.now (length query.old) last
+    requires { EarlierStored stored.control.now stored.samples.now stored.nodes.now stored.links.now work.old sheet.now (length query.old) last
         × (records_needed most ≤ length trail.old) }
-    ensures { line_by result
+    ensures { line_by (Ok result)
         ≡ line_of (measures_in (block_at sheet.now 0)) (take last (sheet_traces sheet.now))
         (get_or (sheet_traces sheet.now) last []) }
 {
     read_trace(sheet, last, query);
-    let seen = search::searching::search_all(control, samples, nodes, links, query, work, trail);
-    Found::At(
-        seen.trace,
-        seen.distance,
-        seen.out as u64,
-        seen.traces as u64,
-    )
+    let seen = search::searching::search_all(stored, query, work, trail);
+    Found {
+        trace: seen.trace,
+        distance: seen.distance,
+        leaves: seen.out as u64,
+        traces: seen.traces as u64,
+    }
 }
 
 // The same with places of its own: for 64 samples, and for as many leaves as 64 traces can have nodes.
-fn match_last(
-    control: &[u16],
-    samples: &[Word],
-    nodes: &[i64],
-    links: &[u16],
-    work: &mut [u64],
-    sheet: &[u8],
-    n: usize,
-    last: usize,
-) -> Found
-    requires { EarlierStored control.now samples.now nodes.now links.now work.old sheet.now n last }
-    ensures { line_by result
+fn match_last(stored: Stored, work: &mut [u64], sheet: &[u8], n: usize, last: usize) -> Found
+    requires { EarlierStored stored.control.now stored.samples.now stored.nodes.now stored.links.now work.old sheet.now n last }
+    ensures { line_by (Ok result)
         ≡ line_of (measures_in (block_at sheet.now 0)) (take last (sheet_traces sheet.now))
         (get_or (sheet_traces sheet.now) last []) }
 {
     let mut query: [Word; 64] = [0; 64];
     let mut trail = [0u16; 127];
-    match_query(
-        control,
-        samples,
-        nodes,
-        links,
-        work,
-        &mut trail,
-        sheet,
-        last,
-        &mut query[..n],
-    )
+    match_query(stored, work, &mut trail, sheet, last, &mut query[..n])
 }
 
 // A library of the earlier traces, and the match of the last one in it.
@@ -91,7 +70,7 @@ fn match_in(
 ) -> Found
     requires { Roomy (lent_of (labelled_tables control.old samples.old nodes.old links.old work.old labels.old))
         sheet.now }
-    ensures { line_by result ≡ program_line sheet.now }
+    ensures { line_by (Ok result) ≡ program_line sheet.now }
 {
     let head = head_of(sheet);
     let n = head.n;
@@ -118,15 +97,19 @@ fn match_in(
         n as usize,
         earlier,
     );
-    match_last(
-        control, samples, nodes, links, work, sheet, n as usize, last,
-    )
+    let stored = Stored {
+        control,
+        samples,
+        nodes,
+        links,
+    };
+    match_last(stored, work, sheet, n as usize, last)
 }
 
 // The tables: 64 traces of 64 samples, 127 records of 87 places, 64 links, 127 places of search work, 64 labels.
 pub fn match_sound(sheet: &[u8]) -> Found
     requires { first_of (program_conditions sheet.now) ≡ none }
-    ensures { line_by result ≡ program_line sheet.now }
+    ensures { line_by (Ok result) ≡ program_line sheet.now }
 {
     let mut control = [0u16; 5];
     let mut samples: [Word; 4096] = [0; 4096];

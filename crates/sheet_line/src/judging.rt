@@ -9,36 +9,31 @@ ghost use Rattle.sheet_line.specs.Conditions.{small_conditions, program_conditio
 
 use sheet_judging::contents::head_of;
 use sheet_judging::judge_sheet;
-use tables::{Refusal, Verdict};
+use tables::Refusal;
 
 // n, then capacity, then the number of traces, the query being one of them. The leaf size does not bear on it.
-fn judge_small(n: u64, capacity: u64, count: u64) -> Verdict
+fn judge_small(n: u64, capacity: u64, count: u64) -> Result<(), Refusal>
     ensures { (leaf_size : ℕ) → found_by result ≡ first_of (small_conditions (measures n capacity leaf_size) count) }
 {
     if 64 < n {
-        return Verdict::Refused(Refusal::ShortTable);
+        return Err(Refusal::ShortTable);
     }
     if 64 < capacity {
-        return Verdict::Refused(Refusal::ShortTable);
+        return Err(Refusal::ShortTable);
     }
     if count <= 1 {
-        return Verdict::Refused(Refusal::Empty);
+        return Err(Refusal::Empty);
     }
-    Verdict::Fine
+    Ok(())
 }
 
-pub fn judge_program(sheet: &[u8]) -> Verdict
+pub fn judge_program(sheet: &[u8]) -> Result<(), Refusal>
     ensures { found_by result ≡ first_of (program_conditions sheet.now) }
 {
     if 65536 < sheet.len() {
-        return Verdict::Refused(Refusal::SheetLength);
+        return Err(Refusal::SheetLength);
     }
-    let judged = judge_sheet(sheet);
-    match judged {
-        Verdict::Refused(why) => Verdict::Refused(why),
-        Verdict::Fine => {
-            let head = head_of(sheet);
-            judge_small(head.n, head.capacity, head.count)
-        }
-    }
+    judge_sheet(sheet)?;
+    let head = head_of(sheet);
+    judge_small(head.n, head.capacity, head.count)
 }

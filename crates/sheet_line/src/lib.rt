@@ -10,20 +10,17 @@ ghost use Rattle.dstree.specs.Program.{program_line};
 ghost use Rattle.sheet_line.specs.Lines.{line_by, put, line_in};
 
 use matching::Found;
-use tables::Verdict;
+use tables::Refusal;
 
 // Trace, distance, leaves and traces read of the last trace's match among the earlier ones, or a refusal.
 //
 // Two wrong programs that the contract rules out: one that has the query in the library, and one that refuses a sheet without traces before
 // it looks at n.
-pub fn answer_of(sheet: &[u8]) -> Found
+pub fn answer_of(sheet: &[u8]) -> Result<Found, Refusal>
     ensures { line_by result ≡ program_line sheet.now }
 {
-    let verdict = judging::judge_program(sheet);
-    match verdict {
-        Verdict::Refused(why) => Found::Refused(why),
-        Verdict::Fine => answering::match_sound(sheet),
-    }
+    judging::judge_program(sheet)?;
+    Ok(answering::match_sound(sheet))
 }
 
 // The line of a sheet of any bytes, in the first places of `out`, and how many they are. Nothing is written where the longest line has no

@@ -8,6 +8,7 @@ ghost use Rattle.sheet_line.specs.Lines.{line_by, line_room};
 
 use matching::Found;
 use sheet::fields::put_bytes;
+use tables::Refusal;
 
 // What a refusal's line begins with.
 const REFUSED: [u8; 8] = *b"refused ";
@@ -62,15 +63,13 @@ fn put_refusal(out: &mut [u8], number: u64, block: u64) -> usize
 }
 
 // The line of an answer, in the first places; and how many they are.
-pub fn put_line(out: &mut [u8], answer: Found) -> usize
+pub fn put_line(out: &mut [u8], answer: Result<Found, Refusal>) -> usize
     requires { line_room ≤ length out.old }
     ensures { (result ≡ length (text (line_by answer))) × (out.new ≡ over (text (line_by answer)) out.old) }
 {
     match answer {
-        Found::At(trace, distance, leaves, traces) => {
-            put_numbers(out, trace, distance, leaves, traces)
-        }
-        Found::Refused(why) => {
+        Ok(seen) => put_numbers(out, seen.trace, seen.distance, seen.leaves, seen.traces),
+        Err(why) => {
             let number = tables::answers::number(why);
             let block = tables::answers::place(why);
             put_refusal(out, number, block)

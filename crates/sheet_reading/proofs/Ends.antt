@@ -14,7 +14,7 @@ use Rattle.tables.specs.Layout.{layout}
 use Rattle.tables.specs.Tables.{Tables, lent_of}
 use Rattle.tables.specs.Answers.{found_by}
 use Rattle.tables.specs.declared.Refusal.{Refusal}
-use Rattle.tables.specs.declared.Verdict.TheVariants as v
+use Rattle.std.specs.Prelude.{Ok, Err}
 use Rattle.dstree.proofs.Conditions.{none_first}
 use Rattle.tables.specs.Judge.{LongEnough}
 use Rattle.tables.proofs.Judged.{room_of}
@@ -26,7 +26,6 @@ use Rattle.calls.specs.Outcome.{outcome}
 use Rattle.calls.specs.Effects.{loaded, loaded_by, reads, effect_of, outcome_on}
 use Rattle.calls.proofs.Ends.{ends_refused, ends_done}
 use Rattle.sheet_reading.specs.Answered.{answer_by}
-use Rattle.sheet_reading.specs.declared.Read.TheVariants as r
 
 module _ (bytes : List ℕ) where
   -- what block 0 says
@@ -77,8 +76,8 @@ module _ (t : Tables) (bytes : List ℕ) where
   abbrev refusals : List Condition
   refusals = reading_conditions layout (lent_of t) (judge_sheet bytes)
 
-  pub refused_answer : (why : Refusal) → first_of refusals ≡ found_by (v.Refused why)
-      → outcome (answer_by (r.Refused why)) t [] ≡ outcome_on (reading bytes) t
+  pub refused_answer : (why : Refusal) → first_of refusals ≡ found_by (Err why)
+      → outcome (answer_by (Err why)) t [] ≡ outcome_on (reading bytes) t
   unfolding answer_by outcome_on effect_of beside_of reads
   refused_answer why e = ends_refused t [] (reads t bytes) why e
 
@@ -87,6 +86,6 @@ module _ (t : Tables) (bytes : List ℕ) where
   loaded_is sound = rw (judged_holds bytes sound) refl
 
   pub done_answer : (after : Tables) → first_of refusals ≡ none → after ≡ loaded t (said bytes) (sheet_traces bytes) (sheet_labels bytes)
-      → outcome (answer_by r.Done) after [] ≡ outcome_on (reading bytes) t
+      → outcome (answer_by (Ok tt)) after [] ≡ outcome_on (reading bytes) t
   unfolding answer_by outcome_on effect_of beside_of reads
   done_answer after e p = ends_done t [] (reads t bytes) done after [] e refl (p ∙ loaded_is (sheet_fine bytes (lent_of t) e)) refl

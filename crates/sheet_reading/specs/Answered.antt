@@ -1,10 +1,10 @@
 -- What `read_sheet` answers, in document 01's terms.
+use Rattle.std.specs.Prelude.{Result, Ok, Err, ⊤}
 use Rattle.dstree.specs.Book.{Answer, answering, refusing, done}
 use Rattle.tables.specs.Answers.{word_of}
-use Rattle.sheet_reading.specs.declared.Read.{Read}
-use Rattle.sheet_reading.specs.declared.Read.TheVariants as r
+use Rattle.tables.specs.declared.Refusal.{Refusal}
 
 -- "Opening and sheet reading answer only that they succeeded"
-unfoldable pub answer_by : Read → Answer
-answer_by r.Done = answering done
-answer_by (r.Refused why) = refusing (word_of why)
+unfoldable pub answer_by : Result ⊤ Refusal → Answer
+answer_by (Ok _) = answering done
+answer_by (Err why) = refusing (word_of why)

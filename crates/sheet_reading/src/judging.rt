@@ -7,65 +7,33 @@ ghost use Rattle.dstree.specs.Refusals.{first_of};
 ghost use Rattle.dstree.specs.SheetWidths.{judge_sheet};
 ghost use Rattle.dstree.specs.Book.{short_conditions, reading_conditions};
 ghost use Rattle.tables.specs.Layout.{layout};
-ghost use Rattle.tables.specs.Judge.{lent};
+ghost use Rattle.tables.specs.Judge.{lengths_by};
 ghost use Rattle.tables.specs.Answers.{found_by};
 
 use sheet_judging::contents::head_of;
 use sheet_judging::judge_sheet;
 use tables::control::{control_short, tables_short};
-use tables::{Refusal, Verdict};
+use tables::{Lengths, Refusal};
 
 // Tables too short for measures in range. The leaf size does not bear on it.
-fn judge_short(
-    control: usize,
-    samples: usize,
-    nodes: usize,
-    links: usize,
-    work: usize,
-    labels: usize,
-    n: u64,
-    capacity: u64,
-) -> Verdict
+fn judge_short(lengths: Lengths, n: u64, capacity: u64) -> Result<(), Refusal>
     requires { (n ≤ most_samples) × (capacity ≤ most_traces) }
     ensures { (leaf_size : ℕ) → found_by result
-        ≡ first_of (short_conditions layout (lent control samples nodes links work labels) (measures n capacity leaf_size)) }
+        ≡ first_of (short_conditions layout (lengths_by lengths) (measures n capacity leaf_size)) }
 {
-    if control_short(control) {
-        return Verdict::Refused(Refusal::ShortTable);
+    if control_short(lengths.control) {
+        return Err(Refusal::ShortTable);
     }
-    if tables_short(samples, nodes, links, work, labels, n, capacity) {
-        return Verdict::Refused(Refusal::ShortTable);
+    if tables_short(lengths, n, capacity) {
+        return Err(Refusal::ShortTable);
     }
-    Verdict::Fine
+    Ok(())
 }
 
-pub fn judge_reading(
-    control: usize,
-    samples: usize,
-    nodes: usize,
-    links: usize,
-    work: usize,
-    labels: usize,
-    sheet: &[u8],
-) -> Verdict
-    ensures { found_by result
-        ≡ first_of (reading_conditions layout (lent control samples nodes links work labels) (judge_sheet sheet.now)) }
+pub fn judge_reading(lengths: Lengths, sheet: &[u8]) -> Result<(), Refusal>
+    ensures { found_by result ≡ first_of (reading_conditions layout (lengths_by lengths) (judge_sheet sheet.now)) }
 {
-    let judged = judge_sheet(sheet);
-    match judged {
-        Verdict::Refused(why) => Verdict::Refused(why),
-        Verdict::Fine => {
-            let head = head_of(sheet);
-            judge_short(
-                control,
-                samples,
-                nodes,
-                links,
-                work,
-                labels,
-                head.n,
-                head.capacity,
-            )
-        }
-    }
+    judge_sheet(sheet)?;
+    let head = head_of(sheet);
+    judge_short(lengths, head.n, head.capacity)
 }

@@ -16,9 +16,7 @@ pub fn put_labels(labels: &mut [u64], sheet: &[u8], count: usize)
     ensures { labels.new ≡ labels_over labels.old 0 (sheet_labels sheet.now) }
 {
     let start = label_start(sheet);
-    let mut i = 0;
-    while i < count {
+    for i in 0..count {
         labels[i] = read_label(sheet, start, i);
-        i += 1;
     }
 }

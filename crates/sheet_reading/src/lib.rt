@@ -15,14 +15,8 @@ use loading::{Source, load};
 use opening::put_empty;
 use segment::Word;
 use sheet_judging::contents::head_of;
-use tables::{Refusal, Verdict};
-
-// That the tables hold the sheet's library, or a refusal.
-#[derive(Drop)]
-pub enum Read {
-    Done,
-    Refused(Refusal),
-}
+use tables::Refusal;
+use tables::lent::Lent;
 
 // Reads a sheet of any bytes: opens a library with its measures and adds its traces in order, each with its label. Every refusal is decided
 // before anything is written, and what was judged is not tested again: each trace goes into tables that are known to be well formed.
@@ -37,51 +31,46 @@ pub fn read_sheet(
     work: &mut [u64],
     labels: &mut [u64],
     sheet: &[u8],
-) -> Read
+) -> Result<(), Refusal>
     ensures { outcome (answer_by result)
         (tables_after control samples nodes links work labels)
         []
         ≡ outcome_on (reading sheet.now)
         (tables_before_all control samples nodes links work labels) }
 {
-    let verdict = judging::judge_reading(
-        control.len(),
-        samples.len(),
-        nodes.len(),
-        links.len(),
-        work.len(),
-        labels.len(),
-        sheet,
+    let lent = Lent {
+        control,
+        samples,
+        nodes,
+        links,
+        work,
+        labels,
+    };
+    judging::judge_reading(lent.lengths(), sheet)?;
+    let head = head_of(sheet);
+    let n = head.n;
+    let count = head.count;
+    put_empty(
+        control,
+        samples,
+        nodes,
+        links,
+        work,
+        labels,
+        n,
+        head.capacity,
+        head.leaf,
     );
-    match verdict {
-        Verdict::Refused(why) => Read::Refused(why),
-        Verdict::Fine => {
-            let head = head_of(sheet);
-            let n = head.n;
-            let count = head.count;
-            put_empty(
-                control,
-                samples,
-                nodes,
-                links,
-                work,
-                labels,
-                n,
-                head.capacity,
-                head.leaf,
-            );
-            labels::put_labels(labels, sheet, count as usize);
-            load(
-                control,
-                samples,
-                nodes,
-                links,
-                Source::Sheet,
-                sheet,
-                n as usize,
-                count as usize,
-            );
-            Read::Done
-        }
-    }
+    labels::put_labels(labels, sheet, count as usize);
+    load(
+        control,
+        samples,
+        nodes,
+        links,
+        Source::Sheet,
+        sheet,
+        n as usize,
+        count as usize,
+    );
+    Ok(())
 }

@@ -19,13 +19,12 @@ use Rattle.calls.specs.Outcome.{outcome, unless_refused}
 use Rattle.calls.specs.Effects.{writes, effect_of, outcome_on}
 use Rattle.sheet_writing.specs.Answered.{answer_by, refusal_in}
 use Rattle.sheet_writing.specs.Filled.{sheet_tables}
-use Rattle.sheet_writing.specs.declared.Written.TheVariants as w
-use Rattle.sheet_writing.specs.declared.judging.WriteVerdict.TheVariants as v
+use Rattle.std.specs.Prelude.{Ok, Err}
 use Rattle.sheet_writing.proofs.Conditions.{own_need}
 use Rattle.sheet_writing.proofs.Stored.{stored_length}
 
-pub refused_answer : (t : Tables) (sheet : List ℕ) (why : Refusal) → first_of (writes t sheet).conditions ≡ refusal_in (v.Refused why)
-    → outcome (answer_by (w.Refused why) sheet) t (sheet ∷ []) ≡ outcome_on (writing sheet) t
+pub refused_answer : (t : Tables) (sheet : List ℕ) (why : Refusal) → first_of (writes t sheet).conditions ≡ refusal_in (Err why)
+    → outcome (answer_by (Err why) sheet) t (sheet ∷ []) ≡ outcome_on (writing sheet) t
 unfolding refusal_in answer_by outcome_on effect_of beside_of unless_refused
 refused_answer t sheet why e = rw e
 
@@ -71,7 +70,7 @@ module _ (control : List ℕ) (samples nodes : List ℤ) (links work labels shee
     pub written_answer : (sheet' : List ℕ) (count : ℕ) → first_of (writes lent sheet).conditions ≡ none
         → count ≡ blocks_needed_as (format_by four) (trace_count taken) (measures_of taken).n (labels_in taken)
         → sheet' ≡ over (sheet_as (format_by four) (measures_of taken) (traces_in taken) (labels_in taken)) sheet
-        → outcome (answer_by (w.Blocks count) sheet') lent (sheet' ∷ []) ≡ outcome_on (writing sheet) lent
+        → outcome (answer_by (Ok count) sheet') lent (sheet' ∷ []) ≡ outcome_on (writing sheet) lent
     unfolding answer_by
     written_answer sheet' count e counted filled =
         ap₂ (λ (c : ℕ) (s : List ℕ). outcome (answering (written c (take (block_size * c) s))) lent (s ∷ [])) (counted ∙ same_blocks)

@@ -1,16 +1,14 @@
 -- Which labels are zero, by their places: bits above code and serial do not count.
-use mathlib.Core.Path.{◌≡◌, refl}
-use mathlib.Core.Bool.{Bool, true, false, ◌&&◌}
-use mathlib.Core.List.{List, map}
-use Prim.Native.Nat.{ℕ, suc, ◌-◌, ◌*◌, ◌/◌, ◌%◌, ◌≤◌, ◌<◌}
+use mathlib.Core.Path.{◌≡◌, refl, sym, ap, ◌∙◌}
+use mathlib.Core.Bool.{Bool, true, false, not, ◌&&◌, ◌||◌}
+use mathlib.Core.List.{List, [], ◌∷◌, map}
+use Prim.Native.Nat.{ℕ, ◌*◌, ◌/◌, ◌%◌}
 use native.Mathlib.Omega.{arith}
-use lib.ListN.{length, get_or}
 use lib.Dec.{eqb}
-use borrow.Author.Tests.{eqb-true, eq-eqb, ne_eqb}
+use borrow.Author.Tests.{eqb-true, eqb-false, eq-eqb, ne_eqb}
+use Rattle.std.specs.List.{list_any}
 use Rattle.integer.specs.Words.{every}
 use Rattle.dstree.specs.Labels.{code_limit, serial_limit, is_zero_label, are_zero_labels, label_at}
-use Rattle.dstree.specs.Sheet.{part}
-use Rattle.dstree.proofs.SheetPieces.{part_cons, part_none}
 
 abbrev limit : ℕ
 limit = code_limit * serial_limit
@@ -37,19 +35,21 @@ module _ (place : ℕ) where
       by false e = refl
       by true e = ne_eqb (place / code_limit % serial_limit) 0 (λ (z : place / code_limit % serial_limit ≡ 0). f (whole (eqb-true (place % code_limit) 0 e) z))
 
-module _ (places : List ℕ) (i k : ℕ) where
-  -- labels i to k
-  abbrev zeros_from : ℕ → Bool
-  zeros_from j = are_zero_labels (map label_at (part j (k - j) places))
+zero_is : (place : ℕ) → eqb (place % limit) 0 ≡ is_zero_label (label_at place)
+zero_is place = by (eqb (place % limit) 0) refl
+  where
+    by : (b : Bool) → eqb (place % limit) 0 ≡ b → eqb (place % limit) 0 ≡ is_zero_label (label_at place)
+    by true e = e ∙ sym (zero_at place (eqb-true (place % limit) 0 e))
+    by false e = e ∙ sym (some_at place (eqb-false (place % limit) 0 e))
 
-  pub label_some : i < k → k ≤ length places → (get_or places i 0 % limit ≡ 0 → ⊥) → zeros_from i ≡ false
-  unfolding every
-  label_some h room f = rw (part_cons i k places 0 h (omega arith), some_at (get_or places i 0) f)
+one_more : (zero rest any : Bool) → any ≡ not rest → (not zero || any) ≡ not (zero && rest)
+one_more true rest any e = e
+one_more false rest any e = refl
 
-  pub label_zero : i < k → k ≤ length places → get_or places i 0 % limit ≡ 0 → zeros_from i ≡ zeros_from (suc i)
-  unfolding every
-  label_zero h room e = rw (part_cons i k places 0 h (omega arith), zero_at (get_or places i 0) e)
-
-  pub labels_end : k ≤ i → zeros_from i ≡ true
-  unfolding every
-  labels_end h = rw (part_none i k places h)
+-- a label of some is not zero
+pub any_is : (places : List ℕ) → list_any (λ (place : ℕ). not (eqb (place % limit) 0)) places ≡ not (are_zero_labels (map label_at places))
+unfolding every
+any_is [] = refl
+any_is (place ∷ places) =
+    let zeros = are_zero_labels (map label_at places) in
+    one_more (eqb (place % limit) 0) zeros _ (any_is places) ∙ ap (λ (b : Bool). not (b && zeros)) (zero_is place)

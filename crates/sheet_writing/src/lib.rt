@@ -11,19 +11,12 @@ ghost use Rattle.calls.specs.Outcome.{outcome};
 ghost use Rattle.calls.specs.Effects.{outcome_on};
 ghost use Rattle.sheet_writing.specs.Answered.{answer_by};
 
-use crate::judging::WriteVerdict;
 use segment::Word;
 use tables::Refusal;
+use tables::lent::Lent;
 
-// The number of blocks, or a refusal.
-#[derive(Drop)]
-pub enum Written {
-    Blocks(u64),
-    Refused(Refusal),
-}
-
-// Writes the library to the sheet's first blocks, its labels behind its samples. Every refusal is decided before anything is written. All
-// six tables are lent only to be read and to be long enough: they stay as they were.
+// Writes the library to the sheet's first blocks, its labels behind its samples, and answers the number of blocks. Every refusal is decided
+// before anything is written. All six tables are lent only to be read and to be long enough: they stay as they were.
 //
 // Two wrong programs that the contract rules out: one that starts each trace in a block of its own, and one that writes label blocks where
 // every label is zero.
@@ -35,18 +28,21 @@ pub fn write_sheet(
     work: &[u64],
     labels: &[u64],
     sheet: &mut [u8],
-) -> Written
+) -> Result<u64, Refusal>
     ensures { outcome (answer_by result sheet.new)
         (tables_before control samples nodes links work labels)
         (sheet.new ∷ [])
         ≡ outcome_on (writing sheet.old)
         (tables_before control samples nodes links work labels) }
 {
-    let verdict = judging::judge(control, samples, nodes, links, work, labels, sheet);
-    match verdict {
-        WriteVerdict::Refused(why) => Written::Refused(why),
-        WriteVerdict::Fine(four) => Written::Blocks(filling::fill_sheet(
-            control, samples, labels, sheet, four,
-        )),
-    }
+    let lent = Lent {
+        control,
+        samples,
+        nodes,
+        links,
+        work,
+        labels,
+    };
+    let format = judging::judge(lent, sheet)?;
+    Ok(filling::fill_sheet(control, samples, labels, sheet, format))
 }

@@ -7,13 +7,12 @@ use native.Mathlib.Numerals.{add-one}
 use lib.ListN.{length}
 use lib.Seq.{length-take-le}
 use lib.Dec.{ltb}
-use borrow.Author.Tests.{lt-ltb, le-ltb, le-leb, lt-leb, ne_eqb}
+use borrow.Author.Tests.{lt-ltb, le-ltb, le-leb, lt-leb}
 use Rattle.integer.proofs.Tests.{and_false}
 use Rattle.dstree.specs.Figures.{run}
-use Rattle.dstree.specs.Adding.{by_either, left_half_end, halves}
+use Rattle.dstree.specs.Adding.{by_either, cut_at, left_half_end, halves}
 use Rattle.leaf_figures.specs.Ends.{ends_of, EndsRoom}
 use Rattle.leaf_figures.specs.declared.ends.Ends.{Ends}
-use Rattle.candidate.specs.Trials.{child_ends}
 
 -- no more ends than places
 pub ends_count : (e : Ends) → EndsRoom e → length (ends_of e) ≡ e.count
@@ -35,9 +34,9 @@ module _ (all : List ℕ) (first last : ℕ) where
   pub middle_in : 1 ≤ first → first < last → (first ≤ middle) × (middle < last)
   middle_in h k = (omega arith, omega arith)
 
-  pub both_halves : 1 ≤ first → first < last → length all < 16
-      → halves all (run first last) ≡ by_either (run first middle) (child_ends middle all) ++ by_either (run (middle + 1) last) (child_ends middle all)
+  pub both_halves : first < last → length all < 16
+      → halves all (run first last) ≡ by_either (run first middle) (cut_at middle all) ++ by_either (run (middle + 1) last) (cut_at middle all)
   unfolding halves left_half_end
-  both_halves h k room =
+  both_halves k room =
       let e : suc last - first ≡ last - first + 1 = omega arith in
-      rw (lt-ltb (length all) 16 room, le-leb 2 (suc last - first) (omega arith), e, add-one middle, ne_eqb middle 0 (λ z. omega (arith, z, middle_in h k)))
+      rw (lt-ltb (length all) 16 room, le-leb 2 (suc last - first) (omega arith), e, add-one middle)

@@ -2,6 +2,7 @@
 use Rattle.std.specs.Prelude.{if◌then◌else◌}
 use mathlib.Core.Path.{◌≡◌, refl, sym, ap, ◌∙◌}
 use mathlib.Core.Bool.{Bool, true, false}
+use Rattle.std.specs.Prelude.{Option as OptionOf, Some, None}
 use mathlib.Core.Option.{Option, none, some}
 use mathlib.Core.List.{List, [], ◌∷◌, ◌++◌, map, foldl, foldl-append}
 use Prim.Native.Nat.{ℕ, suc, ◌+◌, ◌*◌, ◌≤◌}
@@ -17,7 +18,7 @@ use Rattle.dstree.specs.Node.{figure_of}
 use Rattle.dstree.specs.Adding.{Candidate, candidates, candidates_from, by_either, halves, Split, threshold_of, test_of, split_by_test, split_by, parts, gain, best_by, best, traces_of}
 use Rattle.dstree.proofs.Parting.{parting}
 use Rattle.tables.specs.Runs.{figure_by, test_by}
-use Rattle.split_choice.specs.Choosing.{split_of, chosen_by, choice_of, better_of, better_split, try_one, tried, ChoiceFound, ChoiceSound}
+use Rattle.split_choice.specs.Choosing.{split_of, chosen_by, better_of, better_split, try_one, tried, ChoiceFound, ChoiceSound}
 use Rattle.candidate.specs.Trials.{child_ends, candidate_by, TrialFits}
 use Rattle.candidate.specs.declared.siding.Trial.{Trial}
 use Rattle.split_choice.specs.declared.choice.Choice.{Choice}
@@ -32,6 +33,10 @@ best_of : (gain_of : Split → ℤ) (l : List Split) → foldl (better_split gai
 unfolding best_by
 best_of gain_of [] = refl
 best_of gain_of (s ∷ l) = fold_better gain_of s l
+
+-- a choice of one trial
+abbrev pub choice_of : Trial → ℤ → ℤ → Choice
+choice_of c threshold g = record { trial = c; threshold = threshold; gain = g }
 
 module _ (stored : List Trace) (all numbers : List ℕ) where
   tried_parting : (o : Option Split) (cs : List Candidate) → tried stored all numbers o cs ≡ foldl (better_split (gain stored all numbers)) o (those parts (map (split_by stored numbers) cs))
@@ -61,59 +66,53 @@ module _ (stored : List Trace) (all numbers : List ℕ) where
   -- ---- one candidate tried
 
   abbrev figures : Trial → List ℤ
-  figures c = map (figure_of (figure_by c.by_scatter) (run c.first c.last)) (traces_of stored numbers)
+  figures c = map (figure_of (figure_by c.by_scatter) (run c.on.first c.on.last)) (traces_of stored numbers)
 
-  split_is : (c : Trial) (threshold : ℤ) → threshold ≡ threshold_of (figure_by c.by_scatter) (run c.first c.last) (traces_of stored numbers)
-      → split_by stored numbers (candidate_by all c) ≡ split_by_test stored numbers (test_by c.first c.last c.by_scatter threshold) (child_ends c.cut all)
+  split_is : (c : Trial) (threshold : ℤ) → threshold ≡ threshold_of (figure_by c.by_scatter) (run c.on.first c.on.last) (traces_of stored numbers)
+      → split_by stored numbers (candidate_by all c) ≡ split_by_test stored numbers (test_by c.on.first c.on.last c.by_scatter threshold) (child_ends c.cut all)
   unfolding split_by test_of
-  split_is c threshold e = ap (λ (t : ℤ). split_by_test stored numbers (test_by c.first c.last c.by_scatter t) (child_ends c.cut all)) (sym e)
+  split_is c threshold e = ap (λ (t : ℤ). split_by_test stored numbers (test_by c.on.first c.on.last c.by_scatter t) (child_ends c.cut all)) (sym e)
 
-  module _ (n : ℕ) (old : Choice) (sound : ChoiceSound n stored all numbers old) where
-    -- it does not part the leaf
-    pub one_whole : (c : Trial) → lt_z (least_ℤ (figures c)) (greatest_ℤ (figures c)) ≡ false
-        → chosen_by stored all numbers old ≡ tried stored all numbers (chosen_by stored all numbers old) (candidate_by all c ∷ [])
-    one_whole c e = rw (parting stored numbers (candidate_by all c), e)
+  -- it does not part the leaf
+  pub one_whole : (old : OptionOf Choice) (c : Trial) → lt_z (least_ℤ (figures c)) (greatest_ℤ (figures c)) ≡ false
+      → chosen_by stored all numbers old ≡ tried stored all numbers (chosen_by stored all numbers old) (candidate_by all c ∷ [])
+  one_whole old c e = rw (parting stored numbers (candidate_by all c), e)
 
-    module _ (new : Choice) (is_new : new.found ≡ true) (good : ChoiceFound n stored all numbers new) where
-      better_chosen : chosen_by stored all numbers (better_of old new) ≡ better_split (gain stored all numbers) (chosen_by stored all numbers old) (split_of stored all numbers new)
-      better_chosen = by old.found refl
-        where
-          on : (t : Bool) → old.found ≡ true → lt_z old.gain new.gain ≡ t
-              → chosen_by stored all numbers (if t then new else old)
-              ≡ some (if lt_z (gain stored all numbers (split_of stored all numbers old)) (gain stored all numbers (split_of stored all numbers new)) then
-              split_of stored all numbers new else split_of stored all numbers old)
-          on true f q = rw (← (sound f).gain_is, ← good.gain_is, q, is_new)
-          on false f q = rw (← (sound f).gain_is, ← good.gain_is, q, f)
+  module _ (n : ℕ) (new : Choice) (good : ChoiceFound n stored all numbers new) where
+    better_chosen : (old : OptionOf Choice) → ChoiceSound n stored all numbers old → chosen_by stored all numbers (Some (better_of old new))
+        ≡ better_split (gain stored all numbers) (chosen_by stored all numbers old) (split_of stored all numbers new)
+    better_chosen None sound = refl
+    better_chosen (Some old) sound = on (lt_z old.gain new.gain) refl
+      where
+        on : (t : Bool) → lt_z old.gain new.gain ≡ t
+            → chosen_by stored all numbers (Some (if t then new else old))
+            ≡ some (if lt_z (gain stored all numbers (split_of stored all numbers old)) (gain stored all numbers (split_of stored all numbers new)) then
+            split_of stored all numbers new else split_of stored all numbers old)
+        on true q = rw (← sound.gain_is, ← good.gain_is, q)
+        on false q = rw (← sound.gain_is, ← good.gain_is, q)
 
-          by : (b : Bool) → old.found ≡ b
-              → chosen_by stored all numbers (if b then (if lt_z old.gain new.gain then new else old) else new)
-              ≡ better_split (gain stored all numbers) (if b then some (split_of stored all numbers old) else none) (split_of stored all numbers new)
-          by true f = on (lt_z old.gain new.gain) f refl
-          by false f = rw is_new
+    better_sound : (old : OptionOf Choice) → ChoiceSound n stored all numbers old → ChoiceFound n stored all numbers (better_of old new)
+    better_sound None sound = good
+    better_sound (Some old) sound = on (lt_z old.gain new.gain)
+      where
+        on : (t : Bool) → ChoiceFound n stored all numbers (if t then new else old)
+        on true = good
+        on false = sound
 
-      better_sound : ChoiceSound n stored all numbers (better_of old new)
-      better_sound = by old.found
-        where
-          on : (t : Bool) → ChoiceSound n stored all numbers (if t then new else old)
-          on true = λ f. good
-          on false = sound
+  -- it parts the leaf
+  module _ (n : ℕ) (old : OptionOf Choice) (sound : ChoiceSound n stored all numbers old) (c : Trial) (threshold g : ℤ)
+      (above : lt_z (least_ℤ (figures c)) (greatest_ℤ (figures c)) ≡ true)
+      (t_is : threshold ≡ threshold_of (figure_by c.by_scatter) (run c.on.first c.on.last) (traces_of stored numbers))
+      (g_is : g ≡ gain stored all numbers (split_by_test stored numbers (test_by c.on.first c.on.last c.by_scatter threshold) (child_ends c.cut all)))
+      (small : nat_abs threshold ≤ 2 * scatter_most most_samples) (fit : TrialFits n all c) where
+    good : ChoiceFound n stored all numbers (choice_of c threshold g)
+    good = record { gain_is = g_is; size = small; fit = fit }
 
-          by : (b : Bool) → ChoiceSound n stored all numbers (if b then (if lt_z old.gain new.gain then new else old) else new)
-          by true = on (lt_z old.gain new.gain)
-          by false = λ f. good
+    pub one_chosen : chosen_by stored all numbers (Some (better_of old (choice_of c threshold g)))
+        ≡ tried stored all numbers (chosen_by stored all numbers old) (candidate_by all c ∷ [])
+    one_chosen =
+        better_chosen n (choice_of c threshold g) good old sound
+        ∙ rw (parting stored numbers (candidate_by all c), above, split_is c threshold t_is)
 
-    -- it parts the leaf
-    module _ (c : Trial) (threshold g : ℤ) (above : lt_z (least_ℤ (figures c)) (greatest_ℤ (figures c)) ≡ true)
-        (t_is : threshold ≡ threshold_of (figure_by c.by_scatter) (run c.first c.last) (traces_of stored numbers))
-        (g_is : g ≡ gain stored all numbers (split_by_test stored numbers (test_by c.first c.last c.by_scatter threshold) (child_ends c.cut all)))
-        (small : nat_abs threshold ≤ 2 * scatter_most most_samples) (fit : TrialFits n all c.first c.last c.cut) where
-      good : ChoiceFound n stored all numbers (choice_of c threshold g)
-      good = record { gain_is = g_is; size = small; fit = fit }
-
-      pub one_chosen : chosen_by stored all numbers (better_of old (choice_of c threshold g)) ≡ tried stored all numbers (chosen_by stored all numbers old) (candidate_by all c ∷ [])
-      one_chosen =
-          better_chosen (choice_of c threshold g) refl good
-          ∙ rw (parting stored numbers (candidate_by all c), above, split_is c threshold t_is)
-
-      pub one_sound : ChoiceSound n stored all numbers (better_of old (choice_of c threshold g))
-      one_sound = better_sound (choice_of c threshold g) refl good
+    pub one_sound : ChoiceFound n stored all numbers (better_of old (choice_of c threshold g))
+    one_sound = better_sound n (choice_of c threshold g) good old sound

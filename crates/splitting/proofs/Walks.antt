@@ -1,21 +1,21 @@
 -- Along a leaf's list: the traces with a mark that are still to come, an array that they are listed in, and a list that is laid link by
 -- link.
-use mathlib.Core.Path.{◌≡◌, refl, sym, ap, ◌∙◌}
+use mathlib.Core.Path.{◌≡◌, refl, ap}
 use mathlib.Core.List.{List, [], ◌∷◌}
 use Prim.Native.Nat.{ℕ, suc, ◌≤◌, ◌<◌}
 use native.Mathlib.Omega.{arith}
-use lib.ListN.{length, get_or, set, take, drop, drop_of_length-le}
-use lib.Seq.{drop-cons, length-take-le, get_or-take}
+use lib.ListN.{length, get_or, set, drop, drop_of_length-le}
+use lib.Seq.{drop-cons}
 use lib.Dec.{eqb}
 use Rattle.integer.specs.Words.{those}
-use Rattle.integer.proofs.Lists.{In, in_get_or, from_those}
+use Rattle.integer.proofs.Lists.{In, from_those}
 use Rattle.tables.specs.Walk.{Rising, behind_of, numbers_of}
 use Rattle.leaf_figures.specs.Sides.{marked}
 use Rattle.tables.proofs.Listed.{met_from, met_more, met_end, numbers_below}
 use Rattle.candidate.proofs.Sided.{with_one}
 use Rattle.insertion_memory.specs.Links.{linked}
 
-pub side_more : (links : List ℕ) (k : ℕ) → Rising links k → (marks : List ℕ) (mark t : ℕ) → t < k
+pub side_more : (links : List ℕ) (k : ℕ) → Rising links k → (marks : List ℕ) (mark : ℕ) (t : ℕ) → t < k
     → marked marks mark (met_from links k t) ≡ with_one (eqb (get_or marks t 0) mark) t (marked marks mark (met_from links k (behind_of links k t)))
 unfolding those
 side_more links k rising marks mark t h = ap (marked marks mark) (met_more links k rising t h)
@@ -36,22 +36,11 @@ lay_end l links i e =
     rw (drop-cons l i 0 first, none)
 
 -- past the end nothing is to come
-pub side_end : (links : List ℕ) (k : ℕ) (marks : List ℕ) (mark t : ℕ) → k ≤ t → marked marks mark (met_from links k t) ≡ []
+pub side_end : (links : List ℕ) (k : ℕ) (marks : List ℕ) (mark : ℕ) (t : ℕ) → k ≤ t → marked marks mark (met_from links k t) ≡ []
 unfolding those
 side_end links k marks mark t h = ap (marked marks mark) (met_end links k t h)
 
--- ---- a side in an array's first places
-
-module _ (order side : List ℕ) (count : ℕ) (is : take count order ≡ side) (room : count ≤ length order) where
-  pub side_length : length side ≡ count
-  side_length = ap length (sym is) ∙ length-take-le count order room
-
-  pub side_inside : (k : ℕ) → ((t : ℕ) → In t side → t < k) → (i : ℕ) → i < count → get_or order i 0 < k
-  side_inside k low i h =
-      let e : get_or order i 0 ≡ get_or side i 0 = sym (get_or-take count order i 0 h) ∙ ap (λ (l : List ℕ). get_or l i 0) is in
-      omega (arith, e, low (get_or side i 0) (in_get_or side i 0 (omega (arith, side_length))))
-
-pub marked_below : (links : List ℕ) (k : ℕ) → Rising links k → (head : ℕ) → head < k → (marks : List ℕ) (mark t : ℕ) → In t (marked marks mark (numbers_of links k head)) → t < k
+pub marked_below : (links : List ℕ) (k : ℕ) → Rising links k → (head : ℕ) → head < k → (marks : List ℕ) (mark : ℕ) (t : ℕ) → In t (marked marks mark (numbers_of links k head)) → t < k
 marked_below links k rising head h marks mark t i = numbers_below links k rising head t h (from_those (λ u. eqb (get_or marks u 0) mark) (numbers_of links k head) i).0
 
 -- the first of some

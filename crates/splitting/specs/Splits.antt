@@ -28,7 +28,7 @@ pub record Parts (nodes : List ℤ) (links : List ℕ) (samples : List ℤ) (n k
   pub inside : at < count
   pub stored : Stored samples links n k head
   pub room : EndsRoom e
-  pub fit : TrialFits n (ends_of e) c.first c.last c.cut
+  pub fit : TrialFits n (ends_of e) c.trial
   pub threshold_size : nat_abs c.threshold ≤ 2 * scatter_most most_samples
   pub parted : TwoSides nodes count (split_of (stored_in samples n k) (ends_of e) (numbers_of links k head) c)
 

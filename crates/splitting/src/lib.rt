@@ -1,7 +1,7 @@
 // Splitting leaves that hold more than the leaf size.
 #![tactic(auto)]
 
-pub mod lists; // a leaf's list of traces: how long it is, and its sides laid as lists of their own
+pub mod lists; // the sides of a leaf's list, laid as lists of their own
 pub mod leaves; // the records of new leaves
 pub mod splits; // one leaf split
 pub mod pass; // the joined leaf split, then the new ones

@@ -26,6 +26,7 @@ pub fn split_pass(
 {
     let mut count = many;
     let mut at = from;
+    // No `for` over a range: each split moves the end of the walk.
     while at < count {
         count = crate::splits::split_at(nodes, links, samples, n, k, leaf_size, count, at);
         at += 1;

@@ -12,34 +12,29 @@ ghost use Rattle.split_choice.specs.Choosing.{split_of};
 ghost use Rattle.splitting.specs.Leaves.{Side, side_record};
 ghost use Rattle.splitting.specs.Splits.{Parts, Splits};
 
+use crate::leaves::write_leaf;
+use crate::lists::relink;
+use candidate::gains::child_ends;
+use candidate::marking::{LEFT, RIGHT, mark_sides};
 use insertion::heads::become_inner;
+use leaf_figures::ends::{Ends, ends_of};
+use leaf_figures::stored::StoredLeaf;
 use segment::Word;
+use split_choice::choice::{Choice, choose};
 use tables::places::{FIRST, KIND};
 use tables::records::{node_small, record_at};
+use tables::walk::list_size;
 
 // The records of the two new leaves: the left one takes the next number, the right one the number behind it.
-fn write_sides(
-    nodes: &mut [i64],
-    count: usize,
-    samples: &[Word],
-    links: &[u16],
-    n: usize,
-    k: usize,
-    head: usize,
-    marks: &[u8; 4096],
-    e: leaf_figures::ends::Ends,
-)
+fn write_sides(nodes: &mut [i64], count: usize, leaf: StoredLeaf, marks: &[u8; 4096], e: Ends)
     requires { (suc (suc count) * record_places ≤ length nodes.old) × (suc count ≤ most_nodes)
-        × Side samples.now links.now n k head marks.now 1 e × Side samples.now links.now n k head marks.now 2 e }
+        × Side leaf marks.now 1 e × Side leaf marks.now 2 e }
     ensures { nodes.new
-        ≡ with_record
-        (with_record nodes.old count
-        (side_record samples.now links.now n k head marks.now 1 (ends_of e)))
-        (suc count) (side_record samples.now links.now n k head marks.now 2 (ends_of e)) }
+        ≡ with_record (with_record nodes.old count (side_record leaf.entry marks.now 1 (ends_of e)))
+        (suc count) (side_record leaf.entry marks.now 2 (ends_of e)) }
 {
-    crate::leaves::write_leaf(nodes, count, samples, links, n, k, head, marks, 1, e);
-    let right = count + 1;
-    crate::leaves::write_leaf(nodes, right, samples, links, n, k, head, marks, 2, e);
+    write_leaf(nodes, count, leaf, marks, LEFT, e);
+    write_leaf(nodes, count + 1, leaf, marks, RIGHT, e);
 }
 
 // A leaf split by a choice: it becomes inner, its two sides become the next two nodes, and their lists are laid. The sides are marked, and
@@ -53,27 +48,39 @@ fn split_by(
     count: usize,
     at: usize,
     head: usize,
-    e: leaf_figures::ends::Ends,
-    c: split_choice::choice::Choice,
+    e: Ends,
+    c: Choice,
 )
     requires { Parts nodes.old links.old samples.now n k count at head e c }
     ensures { tree_tables nodes.new links.new (suc (suc count)) ≡ split_to (stored_in samples.now n k)
         (tree_tables nodes.old links.old count) at
         (some (split_of (stored_in samples.now n k) (ends_of e) (numbers_of links.old k head) c)) }
 {
-    let first = c.first;
-    let last = c.last;
-    let by_scatter = c.by_scatter;
-    let threshold = c.threshold;
+    let on = c.trial.on;
+    let by_scatter = c.trial.by_scatter;
     let mut marks = [0u8; 4096];
-    candidate::marking::mark_sides(
-        samples, links, n, k, head, first, last, by_scatter, threshold, &mut marks,
-    );
-    let child = candidate::gains::child_ends(e, c.cut);
+    let leaf = StoredLeaf {
+        samples,
+        links,
+        n,
+        k,
+        head,
+    };
+    mark_sides(leaf, on, by_scatter, c.threshold, &mut marks);
+    let child = child_ends(e, c.trial.cut);
     let right = count + 1;
-    become_inner(nodes, at, by_scatter, count, right, first, last, threshold);
-    write_sides(nodes, count, samples, links, n, k, head, &marks, child);
-    crate::lists::relink(links, k, head, &marks);
+    become_inner(
+        nodes,
+        at,
+        by_scatter,
+        count,
+        right,
+        on.first,
+        on.last,
+        c.threshold,
+    );
+    write_sides(nodes, count, leaf, &marks, child);
+    relink(links, k, head, &marks);
 }
 
 // The node at a number, tried: a leaf with more traces than the leaf size splits, if a candidate parts it. The answer is how many nodes
@@ -92,21 +99,20 @@ pub fn split_at(
     ensures { tree_tables nodes.new links.new result
         ≡ split_node leaf_size (stored_in samples.now n k) (tree_tables nodes.old links.old count) at }
 {
-    let kind = node_small(nodes, at, KIND);
-    if kind != 0 {
+    if node_small(nodes, at, KIND) != 0 {
         return count;
     }
     let head = node_small(nodes, at, FIRST);
-    let longer = crate::lists::leaf_longer(links, k, head, leaf_size);
-    if !longer {
+    let traces = list_size(links, k, head);
+    if traces <= leaf_size {
         return count;
     }
-    let e = leaf_figures::ends::ends_of(record_at(nodes, at));
-    let c = split_choice::choice::choose(samples, links, n, k, head, e);
-    let found = c.found;
-    if !found {
-        return count;
+    let e = ends_of(record_at(nodes, at));
+    match choose(samples, links, n, k, head, e) {
+        None => count,
+        Some(c) => {
+            split_by(nodes, links, samples, n, k, count, at, head, e, c);
+            count + 2
+        }
     }
-    split_by(nodes, links, samples, n, k, count, at, head, e, c);
-    count + 2
 }

@@ -1,11 +1,12 @@
 -- Zeroing, for every kind of number at once: after i turns the first i places hold z, and the places behind them are as they were.
 use mathlib.Core.Path.{◌≡◌, refl, ap, subst}
-use mathlib.Core.List.{List, [], ◌∷◌}
+use mathlib.Core.List.{List, [], ◌∷◌, ◌++◌, append-nil}
 use Prim.Native.Nat.{ℕ, zero, suc, ◌+◌, ◌<◌, ◌≤◌}
 use native.Mathlib.Nat.{not-suc-le-zero, le_of_suc-le-suc}
 use native.Mathlib.Numerals.{add-one}
 use native.Mathlib.Omega.{arith}
-use lib.ListN.{length, length-set, set}
+use lib.ListN.{length, length-set, set, take, drop}
+use lib.Seq.{drop-length, length-take-le}
 use Rattle.tables.specs.Tables.{filled}
 
 module _ {A : Type 0} where
@@ -30,3 +31,8 @@ module _ {A : Type 0} where
   -- after the last turn
   pub fill_end : (k : ℕ) (z : A) (s₀ s : List A) (i : ℕ) → k ≤ i → Filling k z s₀ s i → s ≡ filled k z s₀
   fill_end k z s₀ s i h f = let e : i ≡ k = omega arith in subst (λ (x : ℕ). s ≡ filled x z s₀) e f.1
+
+  -- .. of a part from the first place on, before the places behind it
+  pub fill_part : (k : ℕ) (z : A) (s items : List A) → k ≤ length s → items ≡ filled (length (take k s)) z (take k s)
+      → items ++ drop k s ≡ filled k z s
+  fill_part k z s items h e = rw (e, drop-length, append-nil, length-take-le k s h)

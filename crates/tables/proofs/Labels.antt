@@ -1,13 +1,13 @@
 -- The labels of tables: one for each stored trace, each within its bits, whatever their places hold; and what labels for the next traces
 -- leave of the table.
-use Prim.Native.Nat.{ℕ, suc, ◌+◌, ◌*◌, ◌%◌, ◌≤◌, ◌<◌}
+use Prim.Native.Nat.{ℕ, zero, suc, ◌+◌, ◌*◌, ◌%◌, ◌≤◌, ◌<◌}
 use mathlib.Core.Path.{◌≡◌, refl, sym, ap, ◌∙◌}
 use mathlib.Core.List.{List, [], ◌∷◌, ◌++◌, map, append_assoc}
 use native.Mathlib.Omega.{arith}
 use lib.ListN.{length, get_or, set, take, drop, replicate, length-append, length-map, length-replicate, get_or-map}
-use lib.ListN.{replicate-append-replicate}
-use lib.Seq.{length-take-le, take_all, take-take, get_or-take, append_snoc, set_split, paste, paste-zero, length-paste, take-paste, drop-paste}
+use lib.Seq.{drop-drop, length-take-le, take_all, take-take, get_or-take, append_snoc, set_split, paste, paste-zero, length-paste, take-paste, drop-paste}
 use lib.Dec.{T}
+use Rattle.std.proofs.lemmas.List.Edits.{paste_all}
 use Rattle.integer.proofs.Lists.{All, all_none, all_more, drop_more}
 use Rattle.integer.proofs.Rows.{map_append}
 use Rattle.dstree.specs.Labels.{Label, no_label, code_limit, serial_limit, are_labels, label_place, label_at}
@@ -119,15 +119,17 @@ label_stored places at place inside =
     ∙ (set_split places at p inside
     ∙ (sym (append_snoc (take at places) p (drop (suc at) places)) ∙ ap (λ (k : ℕ). take at places ++ (p ∷ []) ++ drop k places) next))
 
--- one more zero label, "zero from callers that give neither"
-pub zeros_more : (places : List ℕ) (at i : ℕ) → at + i ≤ length places
-    → labels_over (labels_over places at (replicate i no_label)) (at + i) (label_at 0 ∷ []) ≡ labels_over places at (replicate (i + 1) no_label)
-unfolding label_at
-zeros_more places at i room =
-    let size = length-replicate i no_label in
-    ap (λ (k : ℕ). labels_over (labels_over places at (replicate i no_label)) (at + k) (no_label ∷ [])) (sym size)
-    ∙ (over_more places at (replicate i no_label) (omega (arith, room, size)) (no_label ∷ [])
-    ∙ ap (labels_over places at) (replicate-append-replicate i 1 no_label))
+-- zero labels, "zero from callers that give neither", are places of 0
+zero_places : (count : ℕ) → map label_place (replicate count no_label) ≡ replicate count 0
+unfolding label_place
+zero_places zero = refl
+zero_places (suc count) = ap (λ (l : List ℕ). 0 ∷ l) (zero_places count)
+
+pub zeros_over : (places part : List ℕ) (at count : ℕ) → part ≡ replicate count 0
+    → take at places ++ (part ++ drop count (drop at places)) ≡ labels_over places at (replicate count no_label)
+zeros_over places part at count e =
+    rw (e, length-replicate count no_label, zero_places count, drop-drop)
+    (sym (paste_all places at (replicate count 0) count (sym (length-replicate count 0))))
 
 -- ---- of tables
 

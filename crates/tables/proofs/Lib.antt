@@ -1,9 +1,9 @@
 -- What holds of lent tables, whatever call works on them: fields and records, lists by links, what they stand for, their first places.
-pub mod Fill
 pub mod Frame
 pub mod Small
 pub mod Range
 pub mod Judged
+pub mod Passed
 pub mod Beginning
 pub mod Views
 pub mod Listed
@@ -13,3 +13,4 @@ pub mod Samples
 pub mod Linked
 pub mod ByKind
 pub mod Labels
+pub mod Fill

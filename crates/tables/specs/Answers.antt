@@ -1,5 +1,5 @@
 -- Refusals as code has them, in document 01's terms; what every call that is lent made tables refuses first; what opening leaves.
-use Rattle.std.specs.Prelude.{ℕ, ◌*◌, ◌-◌, ◌≤◌, ◌≡◌, true, List, [], ◌∷◌, ◌++◌, ℤ, pos, length, drop}
+use Rattle.std.specs.Prelude.{ℕ, ◌*◌, ◌-◌, ◌≤◌, ◌≡◌, true, List, [], ◌∷◌, ◌++◌, ℤ, pos, length, drop, Result, Ok, Err, ⊤}
 use Rattle.std.proofs.Math.Option.{Option, none, some}
 use Rattle.dstree.specs.Measures.{Measures, in_range, samples_needed, records_needed, links_needed, work_needed, labels_needed}
 use Rattle.dstree.specs.Refusals as word
@@ -10,8 +10,6 @@ use Rattle.tables.specs.View.{is_spoiled}
 use Rattle.tables.specs.Judge.{opening_conditions_of, lent_conditions_of}
 use Rattle.tables.specs.declared.Refusal.{Refusal}
 use Rattle.tables.specs.declared.Refusal.TheVariants as r
-use Rattle.tables.specs.declared.Verdict.{Verdict}
-use Rattle.tables.specs.declared.Verdict.TheVariants as v
 
 -- ---- refusals
 
@@ -38,9 +36,9 @@ word_of r.NoLeaves = word.no_leaves
 word_of r.CrossedRange = word.crossed_range
 
 -- what a judge found: the first condition that holds, or none
-unfoldable pub found_by : Verdict → Option word.Refusal
-found_by v.Fine = none
-found_by (v.Refused why) = some (word_of why)
+unfoldable pub found_by : Result ⊤ Refusal → Option word.Refusal
+found_by (Ok _) = none
+found_by (Err why) = some (word_of why)
 
 -- ---- tables that a call is lent to work on
 

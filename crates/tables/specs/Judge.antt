@@ -1,16 +1,25 @@
 -- What lengths and measures alone refuse: all that opening refuses, and the first conditions of every call that is lent made tables.
 use Rattle.std.specs.Prelude.{ℕ, ◌*◌, ◌≤◌, not, List, [], ◌∷◌}
-use Rattle.dstree.specs.Measures.{Measures, most_samples, most_traces, most_leaf, in_range, samples_needed, records_needed, links_needed}
-use Rattle.dstree.specs.Measures.{work_needed, labels_needed}
+use Rattle.dstree.specs.Measures.{Measures, measures, most_samples, most_traces, most_leaf, in_range}
+use Rattle.dstree.specs.Measures.{samples_needed, records_needed, links_needed, work_needed, labels_needed}
 use Rattle.dstree.specs.Refusals as word
 use Rattle.dstree.specs.Refusals.{Condition, ◌refuses◌}
 use Rattle.dstree.specs.Book.{Lent, control_short, tables_short}
+use Rattle.tables.specs.declared.Lengths.{Lengths}
+use Rattle.tables.specs.declared.Measures as declared
 use Rattle.tables.specs.Layout.{layout, record_places, control_fields}
 
 -- lengths of control record, samples, nodes, links, search work and labels, as a call has them
 abbrev pub lent : ℕ → ℕ → ℕ → ℕ → ℕ → ℕ → Lent
 lent control samples nodes links work labels =
     record { control = control; samples = samples; nodes = nodes; links = links; work = work; labels = labels }
+
+-- .. and as a judge takes them, with the measures
+abbrev pub lengths_by : Lengths → Lent
+lengths_by l = lent l.control l.samples l.nodes l.links l.work l.labels
+
+abbrev pub measures_by : declared.Measures → Measures
+measures_by m = measures m.n m.capacity m.leaf_size
 
 -- opening: 1, then 2
 unfoldable pub opening_conditions_of : Lent → Measures → List Condition

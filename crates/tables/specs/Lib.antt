@@ -5,8 +5,10 @@ pub mod Lent
 pub mod View
 pub mod Judge
 pub mod Answers
+pub mod Shared
 pub mod Beginning
 pub mod Walk
 pub mod Nodes
 pub mod Runs
 pub mod Holds
+pub mod Kinds

@@ -6,27 +6,28 @@ ghost use Rattle.dstree.specs.Refusals.{first_of};
 ghost use Rattle.dstree.specs.Book.{control_short, tables_short};
 ghost use Rattle.tables.specs.Layout.{layout};
 ghost use Rattle.tables.specs.Tables.{field};
-ghost use Rattle.tables.specs.Judge.{lent, opening_conditions_of, lent_conditions_of};
+ghost use Rattle.tables.specs.Judge.{lent, lengths_by, measures_by, opening_conditions_of, lent_conditions_of};
 ghost use Rattle.tables.specs.Answers.{found_by};
 
 use crate::places::{CONTROL_FIELDS, RECORD_PLACES};
-use crate::{Refusal, Verdict};
+use crate::{Lengths, Measures, Refusal};
 
 // A field of the control record, and 0 behind its end, so that reading one needs no judgement first.
 pub fn field(control: &[u16], place: usize) -> u16
     ensures { result ≡ field control.now place }
 {
-    if place < control.len() {
-        control[place]
-    } else {
-        0
-    }
+    control.get(place).copied().unwrap_or(0)
 }
 
-// n from 1 to 256, capacity from 1 to 4,096, leaf size from 1 to 64. At full width: no number wraps into its range.
-pub fn measures_fit(n: u64, capacity: u64, leaf_size: u64) -> bool
-    ensures { result ≡ in_range (measures n capacity leaf_size) }
+// n from 1 to 256, capacity from 1 to 4,096, leaf size from 1 to 64.
+pub fn measures_fit(measures: Measures) -> bool
+    ensures { result ≡ in_range (measures_by measures) }
 {
+    let Measures {
+        n,
+        capacity,
+        leaf_size,
+    } = measures;
     if n < 1 {
         return false;
     }
@@ -59,10 +60,7 @@ pub fn records_needed(capacity: u64) -> usize
     requires { capacity ≤ most_traces }
     ensures { (n leaf_size : ℕ) → result ≡ records_needed (measures n capacity leaf_size) }
 {
-    if capacity < 1 {
-        return 0;
-    }
-    2 * (capacity as usize) - 1
+    (2 * capacity as usize).saturating_sub(1)
 }
 
 // The control record has too few places for its fields.
@@ -73,19 +71,20 @@ pub fn control_short(control: usize) -> bool
 }
 
 // One of the other tables has too few places. Neither the control record's length nor the leaf size bears on it.
-pub fn tables_short(
-    samples: usize,
-    nodes: usize,
-    links: usize,
-    work: usize,
-    labels: usize,
-    n: u64,
-    capacity: u64,
-) -> bool
+pub fn tables_short(lengths: Lengths, n: u64, capacity: u64) -> bool
     requires { (n ≤ most_samples) × (capacity ≤ most_traces) }
     ensures { (control leaf_size : ℕ) → result
-        ≡ tables_short layout (lent control samples nodes links work labels) (measures n capacity leaf_size) }
+        ≡ tables_short layout (lent control lengths.samples lengths.nodes lengths.links lengths.work lengths.labels)
+        (measures n capacity leaf_size) }
 {
+    let Lengths {
+        samples,
+        nodes,
+        links,
+        work,
+        labels,
+        ..
+    } = lengths;
     if samples < samples_needed(n, capacity) {
         return true;
     }
@@ -103,56 +102,34 @@ pub fn tables_short(
 }
 
 // What opening refuses: 1, then 2.
-pub fn judge_opening(
-    control: usize,
-    samples: usize,
-    nodes: usize,
-    links: usize,
-    work: usize,
-    labels: usize,
-    n: u64,
-    capacity: u64,
-    leaf_size: u64,
-) -> Verdict
-    ensures { found_by result ≡ first_of (opening_conditions_of (lent control samples nodes links work labels)
-        (measures n capacity leaf_size)) }
+pub fn judge_opening(lengths: Lengths, measures: Measures) -> Result<(), Refusal>
+    ensures { found_by result ≡ first_of (opening_conditions_of (lengths_by lengths) (measures_by measures)) }
 {
-    if !measures_fit(n, capacity, leaf_size) {
-        return Verdict::Refused(Refusal::Measure);
+    if !measures_fit(measures) {
+        return Err(Refusal::Measure);
     }
-    if control_short(control) {
-        return Verdict::Refused(Refusal::ShortTable);
+    if control_short(lengths.control) {
+        return Err(Refusal::ShortTable);
     }
-    if tables_short(samples, nodes, links, work, labels, n, capacity) {
-        return Verdict::Refused(Refusal::ShortTable);
+    if tables_short(lengths, measures.n, measures.capacity) {
+        return Err(Refusal::ShortTable);
     }
-    Verdict::Fine
+    Ok(())
 }
 
 // What every call that is lent made tables refuses before it tests their contents: a short control record (2), its measures (3), another
 // short table (2).
-pub fn judge_lent(
-    control: usize,
-    samples: usize,
-    nodes: usize,
-    links: usize,
-    work: usize,
-    labels: usize,
-    n: u64,
-    capacity: u64,
-    leaf_size: u64,
-) -> Verdict
-    ensures { found_by result ≡ first_of (lent_conditions_of (lent control samples nodes links work labels)
-        (measures n capacity leaf_size)) }
+pub fn judge_lent(lengths: Lengths, measures: Measures) -> Result<(), Refusal>
+    ensures { found_by result ≡ first_of (lent_conditions_of (lengths_by lengths) (measures_by measures)) }
 {
-    if control_short(control) {
-        return Verdict::Refused(Refusal::ShortTable);
+    if control_short(lengths.control) {
+        return Err(Refusal::ShortTable);
     }
-    if !measures_fit(n, capacity, leaf_size) {
-        return Verdict::Refused(Refusal::Spoiled);
+    if !measures_fit(measures) {
+        return Err(Refusal::Spoiled);
     }
-    if tables_short(samples, nodes, links, work, labels, n, capacity) {
-        return Verdict::Refused(Refusal::ShortTable);
+    if tables_short(lengths, measures.n, measures.capacity) {
+        return Err(Refusal::ShortTable);
     }
-    Verdict::Fine
+    Ok(())
 }

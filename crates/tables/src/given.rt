@@ -13,19 +13,17 @@ use segment::{Sample, Word};
 fn is_sample(z: Sample) -> bool
     ensures { result ≡ ltb (mag z) sample_most }
 {
-    if z < 0 { -524289 < z } else { z < 524288 }
+    (-524288..524288).contains(&z)
 }
 
 // Whether all are. If not, the call is refused as 15.
 pub fn are_samples(trace: &[Sample]) -> bool
     ensures { result ≡ are_samples trace.now }
 {
-    let mut i: usize = 0;
-    while i < trace.len() {
-        if !is_sample(trace[i]) {
+    for z in trace {
+        if !is_sample(*z) {
             return false;
         }
-        i += 1;
     }
     true
 }
@@ -36,9 +34,16 @@ pub fn words_of(trace: &[Sample], words: &mut [Word])
     ensures words_after { samples_of (take (length trace.now) words.new) ≡ trace.now }
     ensures long { length words.new ≡ length words.old }
 {
-    let mut j: usize = 0;
-    while j < trace.len() {
+    for j in 0..trace.len() {
         words[j] = word_of(trace[j]);
-        j += 1;
     }
+}
+
+// The same, as the part of those places that stands for the trace.
+pub fn words_for<'a>(trace: &[Sample], words: &'a mut [Word]) -> &'a [Word]
+    requires { (length trace.now ≤ length words.old) × SamplesWithin sample_most trace.now }
+    ensures { samples_of result.now ≡ trace.now }
+{
+    words_of(trace, words);
+    &words[..trace.len()]
 }

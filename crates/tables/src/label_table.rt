@@ -9,11 +9,7 @@ ghost use Rattle.tables.specs.View.{labels_over};
 pub fn place_at(labels: &[u64], number: usize) -> u64
     ensures { result ≡ get_or labels.now number 0 }
 {
-    if number < labels.len() {
-        labels[number]
-    } else {
-        0
-    }
+    labels.get(number).copied().unwrap_or(0)
 }
 
 pub fn code_in(place: u64) -> u64
@@ -32,7 +28,7 @@ pub fn serial_in(place: u64) -> u64
 pub fn place_of(code: u16, serial: u32) -> u64
     ensures { label_at result ≡ label code serial }
 {
-    (code as u64) + 65536 * (serial as u64)
+    u64::from(code) + 65536 * u64::from(serial)
 }
 
 // A label over a place. All other places stay.
@@ -48,9 +44,5 @@ pub fn clear(labels: &mut [u64], at: usize, count: usize)
     requires { at + count ≤ length labels.old }
     ensures { labels.new ≡ labels_over labels.old at (replicate count no_label) }
 {
-    let mut i: usize = 0;
-    while i < count {
-        store(labels, at + i, 0);
-        i += 1;
-    }
+    labels[at..at + count].fill(0);
 }

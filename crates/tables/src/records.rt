@@ -12,23 +12,18 @@ use crate::places::RECORD_PLACES;
 pub fn small(v: i64) -> usize
     ensures { result ≡ small_of v }
 {
-    if v < 0 {
-        return 65536;
+    if (0..=65535).contains(&v) {
+        v as usize
+    } else {
+        65536
     }
-    if 65535 < v {
-        return 65536;
-    }
-    v as usize
 }
 
 // A field that holds a scatter. Below zero it reads as 2^63, above every limit.
 pub fn scatter(v: i64) -> u64
     ensures { result ≡ scatter_in v }
 {
-    if v < 0 {
-        return 9223372036854775808;
-    }
-    v as u64
+    u64::try_from(v).unwrap_or(1 << 63)
 }
 
 // ---- one record

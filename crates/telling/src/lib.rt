@@ -6,8 +6,9 @@
 // many traces are listed. An opening, a reading, a check and a report of bands tell nothing, a refusal its place.
 #![tactic(auto)]
 
-ghost use Rattle.std.specs.Prelude.{◌≡◌, List, [], ◌∷◌, ℕ, ◌^◌, ◌≤◌, ◌<◌, length, set};
+ghost use Rattle.std.specs.Prelude.{◌≡◌, List, ℕ, ◌^◌, ◌≤◌, ◌<◌, length};
 ghost use Rattle.dstree.specs.Matching.{Near};
+ghost use Rattle.dstree.specs.Pair.{by_which};
 ghost use Rattle.dstree.specs.Book.{refusing};
 ghost use Rattle.tables.specs.Answers.{word_of};
 ghost use Rattle.opening.specs.Opened as opened;
@@ -23,37 +24,29 @@ ghost use Rattle.batching.specs.Answered as batching;
 ghost use Rattle.labelling.specs.Answered as labelling;
 ghost use Rattle.remote.specs.Answered as remote;
 ghost use Rattle.banding.specs.Answered as banding;
+ghost use Rattle.pair_search.specs.BothSearched.{which_by};
 ghost use Rattle.pairing.specs.Answered as pairing;
 ghost use Rattle.limiting.specs.Answered as limiting;
 ghost use Rattle.clipping.specs.Answered as clipping;
 ghost use Rattle.calls.specs.Numbers.{laid};
 ghost use Rattle.telling.specs.COutcome.{returned, returned_of};
 
-use adding::Added;
-use banding::Banded;
-use batching::{BatchFound, Batched};
-use checking::Checked;
-use clipping::Clipped;
-use exporting::Exported;
-use importing::Imported;
 use labelling::Labelled;
 use limiting::Limited;
 use listing::Listed;
 use matching::Found;
-use opening::Opened;
-use pairing::PairFound;
+use pair_search::turns::Whose;
+use pairing::Paired;
 use remote::RemoteFound;
-use sheet_reading::Read;
-use sheet_writing::Written;
 use tables::Refusal;
 
-// A number at its place, if there is such a place.
-fn put(out: &mut [u64], at: usize, x: u64)
-    ensures { out.new ≡ set out.old at x }
+// Values over the first places; those for which there is no place are left out. The code is 0.
+fn tell(values: &[u64], out: &mut [u64]) -> u64
+    ensures { returned result out.new ≡ returned 0 (laid values.now out.old) }
 {
-    if at < out.len() {
-        out[at] = x;
-    }
+    let count = values.len().min(out.len());
+    out[..count].copy_from_slice(&values[..count]);
+    0
 }
 
 fn tell_refusal(why: Refusal, out: &mut [u64]) -> u64
@@ -61,258 +54,129 @@ fn tell_refusal(why: Refusal, out: &mut [u64]) -> u64
 {
     let place = tables::answers::place(why);
     let number = tables::answers::number(why);
-    put(out, 0, place);
+    tell(&[place], out);
     number
 }
 
-pub fn tell_opened(answer: Opened, out: &mut [u64]) -> u64
-    ensures { returned result out.new ≡ returned_of (opened.answer_by answer) out.old }
+// Of a call that answers only that it succeeded. A report is told by the slice that its call leaves it in, so that any list may stand for it.
+pub fn tell_done(answer: Result<(), Refusal>, out: &mut [u64]) -> u64
+    ensures opened { returned result out.new ≡ returned_of (opened.answer_by answer) out.old }
+    ensures read { returned result out.new ≡ returned_of (reading.answer_by answer) out.old }
+    ensures checked { returned result out.new ≡ returned_of (checking.answer_by answer) out.old }
+    ensures banded { (bands : ℕ) (list : List ℕ) → returned result out.new ≡ returned_of (banding.answer_by answer bands list) out.old }
 {
     match answer {
-        Opened::Done => 0,
-        Opened::Refused(why) => tell_refusal(why, out),
+        Ok(()) => 0,
+        Err(why) => tell_refusal(why, out),
     }
 }
 
-pub fn tell_added(answer: Added, out: &mut [u64]) -> u64
-    ensures { returned result out.new ≡ returned_of (added.answer_by answer) out.old }
+// Of a call that answers one number. Sheet, recording, list, records and trail are told by the slices that the calls leave them in.
+pub fn tell_number(answer: Result<u64, Refusal>, out: &mut [u64]) -> u64
+    ensures added { returned result out.new ≡ returned_of (added.answer_by answer) out.old }
+    ensures written { (sheet : List ℕ) → returned result out.new ≡ returned_of (writing.answer_by answer sheet) out.old }
+    ensures imported { returned result out.new ≡ returned_of (importing.answer_by answer) out.old }
+    ensures exported { (buffer : List ℕ) → returned result out.new ≡ returned_of (exporting.answer_by answer buffer) out.old }
+    ensures batched { (records : List Near) (trail : List ℕ)
+        → returned result out.new ≡ returned_of (batching.answer_by answer records trail) out.old }
+    ensures clipped { (list : List ℕ) → returned result out.new ≡ returned_of (clipping.answer_by answer list) out.old }
 {
     match answer {
-        Added::At(number) => {
-            put(out, 0, number);
-            0
-        }
-        Added::Refused(why) => tell_refusal(why, out),
+        Ok(number) => tell(&[number], out),
+        Err(why) => tell_refusal(why, out),
     }
 }
 
 // The trail is told by the slice that the match leaves it in, so that any list may stand for it here.
-pub fn tell_found(answer: Found, out: &mut [u64]) -> u64
+pub fn tell_found(answer: Result<Found, Refusal>, out: &mut [u64]) -> u64
     ensures { (trail : List ℕ) → returned result out.new ≡ returned_of (matched.answer_by answer trail) out.old }
 {
     match answer {
-        Found::At(trace, distance, leaves, traces) => {
-            put(out, 0, trace);
-            put(out, 1, distance);
-            put(out, 2, leaves);
-            put(out, 3, traces);
-            0
-        }
-        Found::Refused(why) => tell_refusal(why, out),
+        Ok(found) => tell(
+            &[found.trace, found.distance, found.leaves, found.traces],
+            out,
+        ),
+        Err(why) => tell_refusal(why, out),
     }
 }
 
 // The trail and the list are told by the slices that the listing leaves them in.
-pub fn tell_listed(answer: Listed, out: &mut [u64]) -> u64
+pub fn tell_listed(answer: Result<Listed, Refusal>, out: &mut [u64]) -> u64
     ensures { (trail list : List ℕ)
         → returned result out.new ≡ returned_of (listed.answer_by answer trail list) out.old }
 {
     match answer {
-        Listed::Found(leaves, traces, many) => {
-            put(out, 0, leaves);
-            put(out, 1, traces);
-            put(out, 2, many);
-            0
-        }
-        Listed::Refused(why) => tell_refusal(why, out),
+        Ok(listed) => tell(&[listed.leaves, listed.traces, listed.many], out),
+        Err(why) => tell_refusal(why, out),
     }
 }
 
-// The sheet is told by the slice that the writing leaves it in.
-pub fn tell_written(answer: Written, out: &mut [u64]) -> u64
-    ensures { (sheet : List ℕ) → returned result out.new ≡ returned_of (writing.answer_by answer sheet) out.old }
-{
-    match answer {
-        Written::Blocks(count) => {
-            put(out, 0, count);
-            0
-        }
-        Written::Refused(why) => tell_refusal(why, out),
-    }
-}
-
-pub fn tell_read(answer: Read, out: &mut [u64]) -> u64
-    ensures { returned result out.new ≡ returned_of (reading.answer_by answer) out.old }
-{
-    match answer {
-        Read::Done => 0,
-        Read::Refused(why) => tell_refusal(why, out),
-    }
-}
-
-pub fn tell_imported(answer: Imported, out: &mut [u64]) -> u64
-    ensures { returned result out.new ≡ returned_of (importing.answer_by answer) out.old }
-{
-    match answer {
-        Imported::Traces(count) => {
-            put(out, 0, count);
-            0
-        }
-        Imported::Refused(why) => tell_refusal(why, out),
-    }
-}
-
-// The recording is told by the slice that the export leaves it in.
-pub fn tell_exported(answer: Exported, out: &mut [u64]) -> u64
-    ensures { (buffer : List ℕ) → returned result out.new
-        ≡ returned_of (exporting.answer_by answer buffer) out.old }
-{
-    match answer {
-        Exported::Bytes(size) => {
-            put(out, 0, size);
-            0
-        }
-        Exported::Refused(why) => tell_refusal(why, out),
-    }
-}
-
-pub fn tell_checked(answer: Checked, out: &mut [u64]) -> u64
-    ensures { returned result out.new ≡ returned_of (checking.answer_by answer) out.old }
-{
-    match answer {
-        Checked::Accepted => 0,
-        Checked::Refused(why) => tell_refusal(why, out),
-    }
-}
-
-// Records and trail are told by the slices that the batch leaves them in.
-pub fn tell_batched(found: BatchFound, out: &mut [u64]) -> u64
-    ensures { (records : List Near) (trail : List ℕ)
-        → returned result out.new ≡ returned_of (batching.answer_by found.outcome records trail) out.old }
-{
-    let answer = found.outcome;
-    match answer {
-        Batched::Done(leaves) => {
-            put(out, 0, leaves);
-            0
-        }
-        Batched::Refused(why) => tell_refusal(why, out),
-    }
-}
-
-pub fn tell_label(answer: Labelled, out: &mut [u64]) -> u64
+pub fn tell_label(answer: Result<Labelled, Refusal>, out: &mut [u64]) -> u64
     ensures { returned result out.new ≡ returned_of (labelling.answer_by answer) out.old }
 {
     match answer {
-        Labelled::Label(code, serial) => {
-            put(out, 0, code);
-            put(out, 1, serial);
-            0
-        }
-        Labelled::Refused(why) => tell_refusal(why, out),
+        Ok(label) => tell(&[label.code, label.serial], out),
+        Err(why) => tell_refusal(why, out),
     }
 }
 
 // The trail is told by the slice that the remote's call leaves it in.
-pub fn tell_remote(answer: RemoteFound, out: &mut [u64]) -> u64
+pub fn tell_remote(answer: Result<RemoteFound, Refusal>, out: &mut [u64]) -> u64
     ensures { (trail : List ℕ) → returned result out.new ≡ returned_of (remote.answer_by answer trail) out.old }
 {
     match answer {
-        RemoteFound::At(trace, distance, leaves, traces, code) => {
-            put(out, 0, trace);
-            put(out, 1, distance);
-            put(out, 2, leaves);
-            put(out, 3, traces);
-            put(out, 4, code);
-            0
-        }
-        RemoteFound::Refused(why) => tell_refusal(why, out),
+        Ok(found) => tell(
+            &[
+                found.trace,
+                found.distance,
+                found.leaves,
+                found.traces,
+                found.code,
+            ],
+            out,
+        ),
+        Err(why) => tell_refusal(why, out),
     }
 }
 
-// The report is told by the slice that the call leaves it in.
-pub fn tell_banded(answer: Banded, out: &mut [u64]) -> u64
-    ensures { (bands : ℕ) (list : List ℕ)
-        → returned result out.new ≡ returned_of (banding.answer_by answer bands list) out.old }
+fn library_number(library: Whose) -> u64
+    ensures { result ≡ by_which (which_by library) 0 1 }
 {
-    match answer {
-        Banded::Reported => 0,
-        Banded::Refused(why) => tell_refusal(why, out),
+    match library {
+        Whose::Factory => 0,
+        Whose::Bench => 1,
     }
-}
-
-// Six numbers over the first places.
-fn put_six(
-    out: &mut [u64],
-    first: u64,
-    second: u64,
-    third: u64,
-    fourth: u64,
-    fifth: u64,
-    sixth: u64,
-)
-    ensures { out.new ≡ laid (first ∷ second ∷ third ∷ fourth ∷ fifth ∷ sixth ∷ []) out.old }
-{
-    put(out, 0, first);
-    put(out, 1, second);
-    put(out, 2, third);
-    put(out, 3, fourth);
-    put(out, 4, fifth);
-    put(out, 5, sixth);
 }
 
 // The trails are told by the slices that the call leaves them in. The factory's leaves are told by their number too, so that its trail has
 // to hold them.
-pub fn tell_paired(answer: PairFound, out: &mut [u64]) -> u64
+pub fn tell_paired(answer: Result<Paired, Refusal>, out: &mut [u64]) -> u64
     requires { pairing.leaves_by answer < 2 ^ 64 }
     ensures { (trail bench_trail : List ℕ) → pairing.factory_leaves_by answer ≤ length trail
         → returned result out.new ≡ returned_of (pairing.answer_by answer trail bench_trail) out.old }
 {
     match answer {
-        PairFound::Factory(trace, distance, leaves, bench_leaves, traces) => {
-            put_six(
+        Ok(p) => {
+            let which = library_number(p.library);
+            let leaves = p.leaves + p.bench_leaves;
+            tell(
+                &[which, p.trace, p.distance, leaves, p.traces, p.leaves],
                 out,
-                0,
-                trace,
-                distance,
-                leaves + bench_leaves,
-                traces,
-                leaves,
-            );
-            0
+            )
         }
-        PairFound::Bench(trace, distance, leaves, bench_leaves, traces) => {
-            put_six(
-                out,
-                1,
-                trace,
-                distance,
-                leaves + bench_leaves,
-                traces,
-                leaves,
-            );
-            0
-        }
-        PairFound::Refused(why) => tell_refusal(why, out),
+        Err(why) => tell_refusal(why, out),
     }
 }
 
 // 1 is told of a settled answer, with a bound of 0; else 0, with the first unread leaf's.
-pub fn tell_limited(answer: Limited, out: &mut [u64]) -> u64
+pub fn tell_limited(answer: Result<Limited, Refusal>, out: &mut [u64]) -> u64
     ensures { (trail : List ℕ) → returned result out.new ≡ returned_of (limiting.answer_by answer trail) out.old }
 {
     match answer {
-        Limited::Settled(trace, distance, leaves, traces) => {
-            put_six(out, trace, distance, leaves, traces, 1, 0);
-            0
-        }
-        Limited::Open(trace, distance, leaves, traces, bound) => {
-            put_six(out, trace, distance, leaves, traces, 0, bound);
-            0
-        }
-        Limited::Refused(why) => tell_refusal(why, out),
-    }
-}
-
-// The list is told by the slice that the call leaves it in.
-pub fn tell_clipped(answer: Clipped, out: &mut [u64]) -> u64
-    ensures { (list : List ℕ) → returned result out.new ≡ returned_of (clipping.answer_by answer list) out.old }
-{
-    match answer {
-        Clipped::Possible(listed) => {
-            put(out, 0, listed);
-            0
-        }
-        Clipped::Refused(why) => tell_refusal(why, out),
+        Ok(l) => match l.unread {
+            None => tell(&[l.trace, l.distance, l.leaves, l.traces, 1, 0], out),
+            Some(bound) => tell(&[l.trace, l.distance, l.leaves, l.traces, 0, bound], out),
+        },
+        Err(why) => tell_refusal(why, out),
     }
 }

@@ -1,9 +1,18 @@
 -- A first look at records: what a visit to a node shows.
-use Rattle.std.specs.Prelude.{ℕ, ◌<◌, ◌≡◌, true, List, ℤ}
+use Rattle.std.specs.Prelude.{ℕ, ◌*◌, ◌≤◌, ◌<◌, ◌≡◌, true, List, ℤ, length}
+use Rattle.dstree.specs.Measures.{most_samples, most_traces, most_nodes}
+use Rattle.tables.specs.Layout.{record_places}
 use Rattle.tables.specs.Tables.{record_of}
 use Rattle.records_fit.specs.Fits.{head_fits, records_fit, all_kept, ChildrenUnder}
 use Rattle.numbers_fit.specs.Marks.{MarksGrown, Named}
 use Rattle.numbers_fit.specs.Tests.{children_at, children_of_first, children_once, first_at, firsts_of}
+
+-- the table has the records of m nodes, and none of the numbers is above its limit
+pub record NodesLent (n m k : ℕ) (nodes : List ℤ) : Type 0 where
+  pub room : m * record_places ≤ length nodes
+  pub low : m ≤ most_nodes
+  pub short : n ≤ most_samples
+  pub few : k ≤ most_traces
 
 -- node j's head fits, its children's segments hold and keep its ends, and its children and its first trace number are marked
 pub record NodeVisited (n m k : ℕ) (nodes : List ℤ) (j : ℕ) (marks marked named after : List ℕ) : Type 0 where

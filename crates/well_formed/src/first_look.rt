@@ -1,11 +1,9 @@
 // A first look at nodes and links, in one pass over the records: each is read once, with its sibling and its parent at hand. It passes
 // tables as calls leave them, where the two children of a node have the same ends. A yes says that the rules hold; a no says nothing.
 
-ghost use Rattle.std.specs.Prelude.{◌≡◌, true, ◌*◌, ◌≤◌, ◌<◌, length};
-ghost use Rattle.dstree.specs.Measures.{most_samples, most_traces, most_nodes};
-ghost use Rattle.tables.specs.Layout.{record_places, node_places};
+ghost use Rattle.std.specs.Prelude.{◌≡◌, true, ◌<◌};
 ghost use Rattle.well_formed.specs.Whole.{tree_fits, TreeLent};
-ghost use Rattle.well_formed.specs.Visits.{NodeVisited, VisitedFirst, RecordsPassed};
+ghost use Rattle.well_formed.specs.Visits.{NodesLent, NodeVisited, VisitedFirst, RecordsPassed};
 
 // Node j, of m: its head, and its first trace number if it is a leaf, else the numbers and the records of its children.
 fn node_passes(
@@ -17,8 +15,7 @@ fn node_passes(
     marks: &mut [u8; 8192],
     named: &mut [u8; 4096],
 ) -> bool
-    requires { (m * record_places ≤ length nodes.now) × (m ≤ most_nodes) × (j < m) × (n ≤ most_samples) × (k ≤ most_traces)
-        × (length marks.old ≡ node_places) × (length named.old ≡ most_traces) }
+    requires { NodesLent n m k nodes.now × (j < m) }
     ensures { result ≡ true →
         NodeVisited n m k nodes.now j marks.old marks.new named.old named.new }
 {
@@ -43,25 +40,21 @@ fn nodes_pass(
     marks: &mut [u8; 8192],
     named: &mut [u8; 4096],
 ) -> bool
-    requires { (m * record_places ≤ length nodes.now) × (m ≤ most_nodes) × (n ≤ most_samples) × (k ≤ most_traces)
-        × (length marks.old ≡ node_places) × (length named.old ≡ most_traces) }
+    requires { NodesLent n m k nodes.now }
     ensures { result ≡ true →
         VisitedFirst n m k nodes.now m marks.old marks.new named.old named.new }
 {
-    let mut j: usize = 0;
-    while j < m {
+    for j in 0..m {
         if !node_passes(nodes, j, m, n, k, marks, named) {
             return false;
         }
-        j += 1;
     }
     true
 }
 
 // Every record. Node 0 is no child, and each other one is, so that all were read.
 fn records_pass(nodes: &[i64], m: usize, n: usize, k: usize, named: &mut [u8; 4096]) -> bool
-    requires { (m * record_places ≤ length nodes.now) × (m ≤ most_nodes) × (n ≤ most_samples) × (k ≤ most_traces)
-        × (length named.old ≡ most_traces) }
+    requires { NodesLent n m k nodes.now }
     ensures { result ≡ true → RecordsPassed n m k nodes.now named.old named.new }
 {
     if m == 0 {

@@ -17,20 +17,18 @@ pub returns-then-answers-found : goal.returns-then-answers-found
 returns-then-answers-found c = left_alone c.args.found c.args.answers.now c.if-answers-found.true
 
 pub loop-i-init : goal.loop-i-init
-loop-i-init c = (omega arith, sym (over_none (answer_at c.args.found) c.args.answers.now))
+loop-i-init c = sym (over_none (answer_at c.args.found) c.args.answers.now)
 
 pub loop-i-preserved : goal.loop-i-preserved
 loop-i-preserved c =
     let i = c.loop-i.i in
-    let less : i < length c.args.answers.now = omega (arith, c.loop-i-test.true, c.loop-i.auto.answers) in (
-      omega (arith, less),
-      ap (λ (l : List AnswerRecord). set l i c.answer_at.result) c.loop-i.invariant.1
-          ∙ ap (set (with_first_values (answer_at c.args.found) i c.args.answers.now) i) c.answer_at.ensures
-          ∙ over_more (answer_at c.args.found) c.args.answers.now i less,
-    )
+    let less : i < length c.args.answers.now = omega (arith, c.loop-i-test.true, c.loop-i.auto.answers) in
+    ap (λ (l : List AnswerRecord). set l i c.answer_at.result) c.loop-i.invariant
+    ∙ ap (set (with_first_values (answer_at c.args.found) i c.args.answers.now) i) c.answer_at.ensures
+    ∙ over_more (answer_at c.args.found) c.args.answers.now i less
 
 pub returns : goal.returns
 returns c =
-    let all : c.loop-i.i ≡ length c.args.answers.now = omega (arith, c.loop-i.invariant.0, c.loop-i-test.false, c.loop-i.auto.answers) in
-    ap (store_outcome true) (c.loop-i.invariant.1 ∙ ap (λ (k : ℕ). with_first_values (answer_at c.args.found) k c.args.answers.now) all)
+    let all : c.loop-i.i ≡ length c.args.answers.now = omega arith in
+    ap (store_outcome true) (c.loop-i.invariant ∙ ap (λ (k : ℕ). with_first_values (answer_at c.args.found) k c.args.answers.now) all)
     ∙ all_stored c.args.found c.args.answers.now c.if-answers-found.false

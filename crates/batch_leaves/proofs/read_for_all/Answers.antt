@@ -17,7 +17,7 @@ pub loop-i-init : goal.loop-i-init
 loop-i-init c =
     let a = c.args in
     let all = more a.samples.now a.links.now a.n a.count a.head a.queries.now in
-    (omega arith, refl, reading_start a.leaves all a.bests.now)
+    (refl, reading_start a.leaves all a.bests.now)
 
 -- a turn
 pub trace_at-query-requires : goal.trace_at-query-requires
@@ -32,14 +32,8 @@ read_for-requires c =
       c.requires.stored.0,
       long,
       omega (arith, c.loop-i-test.true, c.requires.stored.2),
-      omega (arith, c.loop-i-test.true, c.requires.stored.3, c.loop-i.invariant.1),
+      omega (arith, c.loop-i-test.true, c.requires.stored.3, c.loop-i.invariant.0),
     )
-
-pub overflow_add-i : goal.overflow_add-i
-overflow_add-i c = omega (arith, c.loop-i-test.true, c.requires.stored.2)
-
-pub loop-i-smaller : goal.loop-i-smaller
-loop-i-smaller c = omega (arith, c.loop-i-test.true)
 
 pub loop-i-preserved : goal.loop-i-preserved
 loop-i-preserved c =
@@ -51,9 +45,8 @@ loop-i-preserved c =
     subst (λ (query : Trace). OneRead a.leaves L.i
     (map (near_of a.samples.now a.n query) (numbers_of a.links.now a.count a.head)) L.bests bests)
     c.trace_at-query.ensures c.read_for.ensures in (
-      omega (arith, c.loop-i-test.true),
-      c.read_for.auto.bests ∙ L.invariant.1,
-      reading_next a.leaves L.i all a.bests.now L.bests bests L.invariant.2 one,
+      c.read_for.auto.bests ∙ L.invariant.0,
+      reading_next a.leaves L.i all a.bests.now L.bests bests L.invariant.1 one,
     )
 
 -- the mark
@@ -70,9 +63,9 @@ pub overflow_add-result : goal.overflow_add-result
 overflow_add-result c = omega (arith, c.requires.stored.4)
 
 pub shape_of-bests : goal.shape_of-bests
-shape_of-bests c = c.loop-i.invariant.1
+shape_of-bests c = c.loop-i.invariant.0
 
 pub returns : goal.returns
 returns c =
     let L = c.loop-i in
-    record { all_read = λ i h. L.invariant.2.done i (omega (arith, h, c.loop-i-test.false)); marked = refl; more = refl }
+    record { all_read = λ i h. L.invariant.1.done i (omega (arith, h, c.loop-i-test.false)); marked = refl; more = refl }

@@ -1,7 +1,7 @@
 -- `batch_leaves::read_for_all` meets its contract: the first records are read, the others are as they were (`Bests`).
 use mathlib.Core.Path.{◌≡◌}
 use mathlib.Core.List.{List, map}
-use Prim.Native.Nat.{ℕ, ◌-◌, ◌≤◌}
+use Prim.Native.Nat.{ℕ}
 use lib.IntN.{ℤ}
 use lib.ListN.{length}
 use Rattle.dstree.specs.Matching.{Near}
@@ -17,7 +17,4 @@ more samples links n count head queries i = map (near_of samples n (trace_in que
 
 abbrev pub invariant-loop-i : goal.invariant-loop-i
 invariant-loop-i l =
-    (l.i ≤ l.many) × (length l.bests ≡ length l.initial.bests) × Reading l.leaves l.i (more l.samples l.links l.n l.count l.head l.queries) l.initial.bests l.bests
-
-abbrev pub decreases-loop-i : goal.decreases-loop-i
-decreases-loop-i l = l.many - l.i
+    (length l.bests ≡ length l.initial.bests) × Reading l.leaves l.i (more l.samples l.links l.n l.count l.head l.queries) l.initial.bests l.bests

@@ -16,7 +16,8 @@ use Rattle.reading.specs.Nearest.{near_of}
 use Rattle.reading.proofs.Meaning.{LeafInTables}
 use Rattle.leaf_order.specs.Waits.{Walkable}
 use Rattle.leaf_order.proofs.Records.{number_fits}
-use Rattle.search.specs.Searched.{without_work, Ready}
+use Rattle.search.specs.Lent.{stored_tables}
+use Rattle.search.specs.Searched.{Ready}
 use Rattle.search.proofs.Facts.{walkable, leaf_at}
 use Rattle.search.proofs.Turns.{stored_as}
 use Rattle.batch_leaves.specs.LeavesRead.{Searchable, query_at, is_marked, AllRead}
@@ -44,7 +45,7 @@ returns-then-marks-j-ne0 c =
     let a = c.args in
     let s = c.requires.searchable in
     let leaf = c.requires.leaf in
-    let t = without_work a.control.now a.samples.now a.nodes.now a.links.now in
+    let t = stored_tables a.stored in
     let marked : is_marked a.marks.now a.j ≡ true = marked_yes a.marks.now a.j (λ e. omega (arith, c.if-marks-j-ne0.true, e)) in
     record {
       turns = λ read k. once_old t a.queries.now a.many a.j (at_leaf s.0 a.j leaf.0 leaf.1) k marked;
@@ -55,14 +56,14 @@ pub node_small-first-requires : goal.node_small-first-requires
 node_small-first-requires c =
     let w = walks c.requires.searchable.0 in
     let h = c.requires.leaf.0 in
-    (w.record_room c.args.j h, number_fits c.args.nodes.now _ _ w c.args.j h, omega arith)
+    (w.record_room c.args.j h, number_fits c.args.stored.nodes.now _ _ w c.args.j h, omega arith)
 
 pub read_for_all-requires : goal.read_for_all-requires
 read_for_all-requires c =
     let a = c.args in
     let s = c.requires.searchable in
     let leaf = c.requires.leaf in
-    let t = without_work a.control.now a.samples.now a.nodes.now a.links.now in
+    let t = stored_tables a.stored in
     let n_is : c.wide-n.result ≡ (measures_of t).n = c.wide-n.ensures ∙ c.field.ensures in
     let count_is : c.wide-count.result ≡ trace_count t = c.wide-count.ensures ∙ c.field-2.ensures in
     record {
@@ -81,7 +82,7 @@ returns c =
     let a = c.args in
     let s = c.requires.searchable in
     let leaf = c.requires.leaf in
-    let t = without_work a.control.now a.samples.now a.nodes.now a.links.now in
+    let t = stored_tables a.stored in
     let n_is : c.wide-n.result ≡ (measures_of t).n = c.wide-n.ensures ∙ c.field.ensures in
     let count_is : c.wide-count.result ≡ trace_count t = c.wide-count.ensures ∙ c.field-2.ensures in
     let bests = c.read_for_all.new.bests in

@@ -16,24 +16,24 @@ unfolding found_by
 search_given-found-requires c =
     let a = c.args in
     let t = labelled_tables a.control.now a.samples.now a.nodes.now a.links.now a.work.now a.labels.now in
-    let m = (taken t a.many a.places a.queries.now a.trail.now (sym c.judge-verdict.ensures ∙ ap found_by c.in-Fine.is)).0 in
+    let m = (taken t a.many a.places a.queries.now a.trail.now (sym c.in-Ok.ensures)).0 in
     (m.searchable, m.work_room, m.trail_room, m.inside)
 
-pub returns-in-Refused : goal.returns-in-Refused
-returns-in-Refused c = λ list size.
+pub returns-in-Err : goal.returns-in-Err
+returns-in-Err c = λ list size.
     let a = c.args in
     let t = labelled_tables a.control.now a.samples.now a.nodes.now a.links.now a.work.now a.labels.now in
     batch_refused a.control.now a.samples.now a.nodes.now a.links.now a.work.now a.labels.now a.many
     a.queries.now a.trail.now list _ _
     (ap (λ (p : ℕ). first_of (made_conditions t ++ batch_conditions_in t a.many p a.queries.now a.trail.now)) size
-    ∙ (sym c.judge-verdict.ensures ∙ ap found_by c.in-Refused.is))
+    ∙ sym c.in-Err.ensures)
 
-pub returns-in-Fine : goal.returns-in-Fine
+pub returns-in-Ok : goal.returns-in-Ok
 unfolding found_by
-returns-in-Fine c = λ list size.
+returns-in-Ok c = λ list size.
     let a = c.args in
     let t = labelled_tables a.control.now a.samples.now a.nodes.now a.links.now a.work.now a.labels.now in
-    let nothing : first_of (made_conditions t ++ batch_conditions_in t a.many a.places a.queries.now a.trail.now) ≡ none = sym c.judge-verdict.ensures ∙ ap found_by c.in-Fine.is in
+    let nothing : first_of (made_conditions t ++ batch_conditions_in t a.many a.places a.queries.now a.trail.now) ≡ none = sym c.in-Ok.ensures in
     let r = c.search_given-found.result in
     let left = c.search_given-found.new in
     batch_answer a.control.now a.samples.now a.nodes.now a.links.now a.work.now a.labels.now a.many

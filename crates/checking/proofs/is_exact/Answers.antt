@@ -3,7 +3,6 @@
 use mathlib.Core.Path.{◌≡◌, sym, ap, subst, ◌∙◌}
 use mathlib.Core.List.{List, []}
 use Prim.Native.Nat.{ℕ}
-use lib.ListN.{length-replicate}
 use Rattle.integer.specs.Words.{every, counting}
 use Rattle.tables.specs.Tables.{Tables, tables, measures_of, trace_count, node_count}
 use lib.Dec.{T}
@@ -37,18 +36,14 @@ module _ (t : Tables) (formed : T (well_formed t)) (long : Long t) {k m : ℕ} (
 
 pub fill_sizes-requires : goal.fill_sizes-requires
 fill_sizes-requires c =
-    let a = c.args in (
-      walked (tables a.control.now a.samples.now a.nodes.now a.links.now []) c.requires.0 c.requires.1 (c.wide-k.ensures ∙ c.field-2.ensures) (c.wide-m.ensures ∙ c.field-3.ensures),
-      length-replicate {A = ℕ} 8192 0,
-    )
+    let a = c.args in
+    walked (tables a.control.now a.samples.now a.nodes.now a.links.now []) c.requires.0 c.requires.1 (c.wide-k.ensures ∙ c.field-2.ensures) (c.wide-m.ensures ∙ c.field-3.ensures)
 
 pub lay_out-requires : goal.lay_out-requires
 lay_out-requires c =
     let a = c.args in (
       walked (tables a.control.now a.samples.now a.nodes.now a.links.now []) c.requires.0 c.requires.1 (c.wide-k.ensures ∙ c.field-2.ensures) (c.wide-m.ensures ∙ c.field-3.ensures),
       c.fill_sizes.ensures,
-      length-replicate {A = ℕ} 8192 0,
-      length-replicate {A = ℕ} 4096 0,
     )
 
 pub all_exact-requires : goal.all_exact-requires

@@ -50,8 +50,8 @@ smallest_greatest-limit-requires c =
       omega (arith, c.wide-count.ensures, c.field-2.ensures, c.requires.some_trace),
     )
 
-pub zero_work-requires : goal.zero_work-requires
-zero_work-requires c =
+pub fill_first-requires : goal.fill_first-requires
+fill_first-requires c =
     let a = c.args in
     let control = a.control.now in
     omega (
@@ -80,6 +80,6 @@ returns c =
     record {
       value = c.list_within.ensures.value ∙ ap length found ∙ sym listed.counted;
       list = written_over _ list c.list_within.new.list c.list_within.ensures.list ∙ ap (λ (numbers : List ℕ). over numbers list) found;
-      zero = c.zero_work.ensures ∙ ap (λ (i : ℕ). filled i 0 a.work.now) (needed_is control a.samples.now a.lows.now a.highs.now c.wider.result
+      zero = c.fill_first.ensures ∙ ap (λ (i : ℕ). filled i 0 a.work.now) (needed_is control a.samples.now a.lows.now a.highs.now c.wider.result
           c.records_needed-needed.result (c.records_needed-needed.ensures (field control 0) (field control 2)) (c.wider.ensures ∙ c.field-3.ensures));
     }

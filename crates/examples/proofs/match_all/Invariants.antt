@@ -1,15 +1,13 @@
--- `examples::match_all` meets its contract: behind the queries matched come those that are left, which are the measure.
+-- `examples::match_all` meets its contract: behind the queries matched come those that are left.
 use mathlib.Core.Path.{◌≡◌}
-use Prim.Native.Nat.{◌-◌}
-use lib.ListN.{length, drop}
+use Rattle.std.specs.Slice.Iter.{chunks_rest, chunks_size}
 use Rattle.tables.specs.Tables.{labelled_tables}
 use Rattle.examples.specs.Steps.{parts, matched_each}
 use Rattle.examples.proofs.match_all.Given as goal
 
-abbrev pub invariant-loop-at : goal.invariant-loop-at
-invariant-loop-at l =
-    matched_each (labelled_tables l.control l.samples l.nodes l.links l.work l.labels) (parts l.n (drop l.at l.queries))
-    ≡ matched_each (labelled_tables l.control l.samples l.nodes l.links l.initial.work l.labels) (parts l.n l.queries)
-
-abbrev pub decreases-loop-at : goal.decreases-loop-at
-decreases-loop-at l = length l.queries - l.at
+abbrev pub invariant-loop-query : goal.invariant-loop-query
+invariant-loop-query l = record {
+  size : chunks_size l.query-iterator ≡ l.n;
+  onward : matched_each (labelled_tables l.control l.samples l.nodes l.links l.work l.labels) (parts l.n (chunks_rest l.query-iterator))
+      ≡ matched_each (labelled_tables l.control l.samples l.nodes l.links l.initial.work l.labels) (parts l.n l.queries);
+}

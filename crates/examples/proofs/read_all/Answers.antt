@@ -1,29 +1,46 @@
--- `examples::read_all` meets its contract: behind the sheets read come those that are left, which are the measure.
-use mathlib.Core.Path.{◌≡◌, sym, ap, ◌∙◌}
-use mathlib.Core.List.{List, []}
-use Prim.Native.Nat.{ℕ}
+-- `examples::read_all` meets its contract: behind the sheets read come those that are left.
+use Prim.Native.Nat.{ℕ, min}
+use mathlib.Core.Path.{sym, ap, ◌∙◌}
+use mathlib.Core.List.{List}
 use native.Mathlib.Omega.{arith}
-use lib.ListN.{drop, drop_of_length-le}
+use lib.ListN.{length}
+use Rattle.std.specs.Iterator.Adapters.{enumerate_source}
+use Rattle.std.specs.Slice.Iter.{chunks_rest, chunks_size}
 use Rattle.tables.specs.Tables.{Tables, labelled_tables}
-use Rattle.examples.specs.Steps.{parts_by, parts, read_each}
-use Rattle.examples.proofs.Parts.{next_part}
+use Rattle.examples.specs.Steps.{parts, read_each}
+use Rattle.examples.proofs.Parts.{next_part, no_part}
 use Rattle.examples.proofs.read_all.Goals as goal
 
-pub loop-at-preserved : goal.loop-at-preserved
-loop-at-preserved c =
-    let l = c.loop-at in
+pub loop-i-init : goal.loop-i-init
+loop-i-init c =
+    let a = c.args in
+    let t = labelled_tables a.control.now a.samples.now a.nodes.now a.links.now a.work.now a.labels.now in
+    let source = (ap enumerate_source c.into_iter-i-iterator.ensures.into_iter_gives ∙ c.enumerate-i-items.ensures.source) in
+    record {
+      size = ap chunks_size source ∙ c.chunks.ensures.size;
+      onward = ap (λ (m : List ℕ). read_each t (parts 1024 m)) (ap chunks_rest source ∙ c.chunks.ensures.rest);
+    }
+
+pub loop-i-preserved : goal.loop-i-preserved
+loop-i-preserved c =
+    let l = c.loop-i in
     let a = c.args in
     let t = labelled_tables l.control l.samples l.nodes l.links l.work l.labels in
-    let end = c.part_end-end.result in
-    let next = next_part 1024 (omega arith) l.at end a.sheets.now c.loop-at-test.true c.part_end-end.ensures.2 in
-    ap (λ (u : Tables). read_each u (parts 1024 (drop end a.sheets.now))) c.read_one.ensures
-    ∙ (sym (ap (λ (m : List (List ℕ)). read_each t m) next) ∙ l.invariant)
+    let before = chunks_rest (enumerate_source l.i-iterator) in
+    let after = chunks_rest (enumerate_source c.next.new.self) in
+    let steps = c.in-Some.ensures.steps.0 in
+    let many = steps.1.1 ∙ ap (λ (k : ℕ). min k (length before)) l.invariant.size in
+    let next = next_part 1024 (omega arith) before c.in-Some.sheet.now after steps.1.0 many steps.1.2 in
+    record {
+      size = steps.0 ∙ l.invariant.size;
+      onward = ap (λ (u : Tables). read_each u (parts 1024 after)) c.read_one.ensures
+          ∙ (sym (ap (λ (m : List (List ℕ)). read_each t m) next) ∙ l.invariant.onward);
+    }
 
 pub returns : goal.returns
-unfolding parts_by
 returns c =
-    let l = c.loop-at in
+    let l = c.loop-i in
     let a = c.args in
     let t = labelled_tables l.control l.samples l.nodes l.links l.work l.labels in
-    let none : drop l.at a.sheets.now ≡ [] = drop_of_length-le a.sheets.now {i = l.at} c.loop-at-test.false in
-    sym (ap (λ (m : List ℕ). read_each t (parts 1024 m)) none) ∙ l.invariant
+    let none = no_part 1024 (omega arith) (chunks_rest (enumerate_source l.i-iterator)) c.in-None.ensures.steps.0.1.0 in
+    sym (ap (λ (m : List (List ℕ)). read_each t m) none) ∙ l.invariant.onward

@@ -4,4 +4,4 @@ use Rattle.library_c.proofs.silkendoz_add.Goals as goal
 
 pub returns : goal.returns
 returns c =
-    exported_call _ _ _ _ _ _ _ c.tell_added.ensures c.add-answer.ensures
+    exported_call _ _ _ _ _ _ _ c.tell_number.ensures.added c.add-answer.ensures

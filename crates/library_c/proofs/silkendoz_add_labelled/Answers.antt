@@ -4,4 +4,4 @@ use Rattle.library_c.proofs.silkendoz_add_labelled.Goals as goal
 
 pub returns : goal.returns
 returns c =
-    exported_call _ _ _ _ _ _ _ c.tell_added.ensures c.add_labelled-answer.ensures
+    exported_call _ _ _ _ _ _ _ c.tell_number.ensures.added c.add_labelled-answer.ensures

@@ -4,4 +4,4 @@ use Rattle.library_c.proofs.silkendoz_check_tables.Goals as goal
 
 pub returns : goal.returns
 returns c =
-    exported_call _ _ _ _ _ _ _ c.tell_checked.ensures c.check_tables-answer.ensures
+    exported_call _ _ _ _ _ _ _ c.tell_done.ensures.checked c.check_tables-answer.ensures

@@ -4,4 +4,4 @@ use Rattle.library_c.proofs.silkendoz_count_bands.Goals as goal
 
 pub returns : goal.returns
 returns c =
-    exported_call _ _ _ _ _ _ _ (c.tell_banded.ensures _ c.count_bands-answer.new.list) c.count_bands-answer.ensures
+    exported_call _ _ _ _ _ _ _ (c.tell_done.ensures.banded _ c.count_bands-answer.new.list) c.count_bands-answer.ensures

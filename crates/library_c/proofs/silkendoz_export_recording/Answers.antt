@@ -4,4 +4,4 @@ use Rattle.library_c.proofs.silkendoz_export_recording.Goals as goal
 
 pub returns : goal.returns
 returns c =
-    exported_call _ _ _ _ _ _ _ (c.tell_exported.ensures c.export_recording-answer.new.buffer) c.export_recording-answer.ensures
+    exported_call _ _ _ _ _ _ _ (c.tell_number.ensures.exported c.export_recording-answer.new.buffer) c.export_recording-answer.ensures

@@ -4,4 +4,4 @@ use Rattle.library_c.proofs.silkendoz_import_recording.Goals as goal
 
 pub returns : goal.returns
 returns c =
-    exported_call _ _ _ _ _ _ _ c.tell_imported.ensures c.import_recording-answer.ensures
+    exported_call _ _ _ _ _ _ _ c.tell_number.ensures.imported c.import_recording-answer.ensures

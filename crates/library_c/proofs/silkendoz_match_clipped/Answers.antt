@@ -4,4 +4,4 @@ use Rattle.library_c.proofs.silkendoz_match_clipped.Goals as goal
 
 pub returns : goal.returns
 returns c =
-    exported_call _ _ _ _ _ _ _ (c.tell_clipped.ensures c.match_clipped-answer.new.list) c.match_clipped-answer.ensures
+    exported_call _ _ _ _ _ _ _ (c.tell_number.ensures.clipped c.match_clipped-answer.new.list) c.match_clipped-answer.ensures

@@ -4,4 +4,4 @@ use Rattle.library_c.proofs.silkendoz_open.Goals as goal
 
 pub returns : goal.returns
 returns c =
-    exported_call _ _ _ _ _ _ _ c.tell_opened.ensures c.open-answer.ensures
+    exported_call _ _ _ _ _ _ _ c.tell_done.ensures.opened c.open-answer.ensures

@@ -4,4 +4,4 @@ use Rattle.library_c.proofs.silkendoz_read_sheet.Goals as goal
 
 pub returns : goal.returns
 returns c =
-    exported_call _ _ _ _ _ _ _ c.tell_read.ensures c.read_sheet-answer.ensures
+    exported_call _ _ _ _ _ _ _ c.tell_done.ensures.read c.read_sheet-answer.ensures

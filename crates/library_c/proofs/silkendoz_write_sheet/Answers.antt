@@ -4,4 +4,4 @@ use Rattle.library_c.proofs.silkendoz_write_sheet.Goals as goal
 
 pub returns : goal.returns
 returns c =
-    exported_call _ _ _ _ _ _ _ (c.tell_written.ensures c.write_sheet-answer.new.sheet) c.write_sheet-answer.ensures
+    exported_call _ _ _ _ _ _ _ (c.tell_number.ensures.written c.write_sheet-answer.new.sheet) c.write_sheet-answer.ensures

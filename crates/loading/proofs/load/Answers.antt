@@ -13,7 +13,7 @@ use Rattle.loading.proofs.Takes.{takes_next}
 use Rattle.loading.proofs.load.Goals as goal
 
 pub loop-number-init : goal.loop-number-init
-loop-number-init c = (omega arith, (λ work. refl), refl, refl, refl, refl)
+loop-number-init c = ((λ work. refl), refl, refl, refl, refl)
 
 pub put_one-requires : goal.put_one-requires
 put_one-requires c =
@@ -25,7 +25,7 @@ put_one-requires c =
       few = p.few;
       holds = p.holds l.number c.loop-number-test.true;
       takes = takes_next (tables g.control.now g.samples.now g.nodes.now g.links.now []) (traces_by g.source g.n g.bytes.now) p.takes l.number inside
-          l.control l.samples l.nodes l.links (l.invariant.1 []);
+          l.control l.samples l.nodes l.links (l.invariant.0 []);
     }
 
 pub loop-number-preserved : goal.loop-number-preserved
@@ -34,18 +34,17 @@ loop-number-preserved c =
     let l = c.loop-number in
     let traces = traces_by g.source g.n g.bytes.now in
     let inside : l.number < length traces = omega (arith, c.loop-number-test.true, c.requires.counted) in (
-      omega (arith, c.loop-number-test.true),
-      (λ work. rw (add-one l.number) (c.put_one.ensures work ∙ ap (λ (t : Tables). added_to t (get_or traces l.number [])) (l.invariant.1 work)
+      (λ work. rw (add-one l.number) (c.put_one.ensures work ∙ ap (λ (t : Tables). added_to t (get_or traces l.number [])) (l.invariant.0 work)
           ∙ sym (one_more (tables g.control.now g.samples.now g.nodes.now g.links.now work) traces l.number inside))),
-      c.put_one.auto.control ∙ l.invariant.2,
-      c.put_one.auto.samples ∙ l.invariant.3,
-      c.put_one.auto.nodes ∙ l.invariant.4,
-      c.put_one.auto.links ∙ l.invariant.5,
+      c.put_one.auto.control ∙ l.invariant.1,
+      c.put_one.auto.samples ∙ l.invariant.2,
+      c.put_one.auto.nodes ∙ l.invariant.3,
+      c.put_one.auto.links ∙ l.invariant.4,
     )
 
 pub returns : goal.returns
 returns c = λ work.
     let g = c.args in
-    let all : c.loop-number.number ≡ g.count = omega (arith, c.loop-number-test.false, c.loop-number.invariant.0) in
-    c.loop-number.invariant.1 work
+    let all : c.loop-number.number ≡ g.count = omega arith in
+    c.loop-number.invariant.0 work
     ∙ ap (λ (i : ℕ). foldl added_to (tables g.control.now g.samples.now g.nodes.now g.links.now work) (take i (traces_by g.source g.n g.bytes.now))) all

@@ -1,10 +1,15 @@
 -- `matching::nearest` meets its contract: what the judge found says which way the call ends, and tables that refuse nothing may be
--- searched.
-use mathlib.Core.Path.{sym, ap, ◌∙◌}
+-- searched. The words stand for the query.
+use mathlib.Core.Path.{sym, subst}
 use mathlib.Core.List.{[], ◌∷◌}
+use lib.ListN.{length}
+use Rattle.dstree.specs.Measures.{Trace}
 use Rattle.dstree.specs.Book.{beside_of}
 use Rattle.tables.specs.Tables.{labelled_tables}
 use Rattle.tables.specs.Answers.{found_by}
+use Rattle.tables.proofs.Passed.{passed}
+use Rattle.search.specs.Searched.{without_work, Ready, Searched}
+use Rattle.search.proofs.Facts.{length_fits}
 use Rattle.calls.specs.Effects.{matches, effect_of, outcome_on}
 use Rattle.calls.proofs.Ends.{ends_refused}
 use Rattle.matching.specs.Answered.{answer_by}
@@ -12,28 +17,37 @@ use Rattle.matching.proofs.Conditions.{may_search}
 use Rattle.matching.proofs.Answers.{found_answer}
 use Rattle.matching.proofs.nearest.Goals as goal
 
-pub search_given-seen-requires : goal.search_given-seen-requires
+pub words_for-words-requires : goal.words_for-words-requires
 unfolding found_by
-search_given-seen-requires c =
+words_for-words-requires c =
     let a = c.args in
     let t = labelled_tables a.control.now a.samples.now a.nodes.now a.links.now a.work.now a.labels.now in
-    let m = may_search t a.query.now a.trail.now (sym c.judge-verdict.ensures ∙ ap found_by c.in-Fine.is) in
-    (m.ready, m.work_room, m.inside)
+    let m = may_search t a.query.now a.trail.now (sym c.in_ok-judge.ensures) in
+    (length_fits (without_work a.control.now a.samples.now a.nodes.now a.links.now) a.query.now (length a.trail.now) m.ready, m.inside)
 
-pub returns-in-Refused : goal.returns-in-Refused
+pub search_all-seen-requires : goal.search_all-seen-requires
+unfolding found_by
+search_all-seen-requires c =
+    let a = c.args in
+    let t = labelled_tables a.control.now a.samples.now a.nodes.now a.links.now a.work.now a.labels.now in
+    let m = may_search t a.query.now a.trail.now (sym c.in_ok-judge.ensures) in
+    (subst (λ (x : Trace). Ready (without_work a.control.now a.samples.now a.nodes.now a.links.now) x (length a.trail.now)) (sym c.words_for-words.ensures) m.ready, m.work_room)
+
+pub returns-in_err-judge : goal.returns-in_err-judge
 unfolding answer_by outcome_on effect_of beside_of
-returns-in-Refused c =
+returns-in_err-judge c =
     let a = c.args in
     let t = labelled_tables a.control.now a.samples.now a.nodes.now a.links.now a.work.now a.labels.now in
-    ends_refused t (a.trail.now ∷ []) (matches t a.query.now a.trail.now) _
-    (sym c.judge-verdict.ensures ∙ ap found_by c.in-Refused.is)
+    rw (passed c.from_residual.result _ c.from_residual.ensures.1) (ends_refused t (a.trail.now ∷ []) (matches t a.query.now a.trail.now) _ (sym c.in_err-judge.ensures))
 
-pub returns-in-Fine : goal.returns-in-Fine
+pub returns : goal.returns
 unfolding found_by
-returns-in-Fine c =
+returns c =
     let a = c.args in
-    let r = c.search_given-seen.result in
-    let left = c.search_given-seen.new in
+    let r = c.search_all-seen.result in
+    let left = c.search_all-seen.new in
+    let found = subst
+    (λ (x : Trace). Searched (without_work a.control.now a.samples.now a.nodes.now a.links.now) x a.work.now left.work a.trail.now left.trail
+    r.trace r.distance r.out r.traces) c.words_for-words.ensures c.search_all-seen.ensures in
     found_answer a.control.now a.samples.now a.nodes.now a.links.now a.work.now a.labels.now a.query.now a.trail.now
-    left.work left.trail r.trace r.distance r.out r.traces c.search_given-seen.auto.trail
-    c.search_given-seen.ensures (sym c.judge-verdict.ensures ∙ ap found_by c.in-Fine.is)
+    left.work left.trail r.trace r.distance r.out r.traces c.search_all-seen.auto.trail found (sym c.in_ok-judge.ensures)

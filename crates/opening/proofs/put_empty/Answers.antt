@@ -8,17 +8,17 @@ use Rattle.tables.specs.Tables.{labelled_tables, filled}
 use Rattle.opening.proofs.Answered.{opened_tables}
 use Rattle.opening.proofs.put_empty.Goals as goal
 
-pub zero_links-requires : goal.zero_links-requires
+pub fill_first-requires-3 : goal.fill_first-requires-3
 unfolding links_needed
-zero_links-requires c = c.requires.room.long.links_long
+fill_first-requires-3 c = c.requires.room.long.links_long
 
-pub zero_work-requires : goal.zero_work-requires
+pub fill_first-requires-4 : goal.fill_first-requires-4
 unfolding records_needed work_needed
-zero_work-requires c = rw (c.records_needed-records.ensures c.args.n c.args.leaf_size) c.requires.room.work_room
+fill_first-requires-4 c = rw (c.records_needed-records.ensures c.args.n c.args.leaf_size) c.requires.room.work_room
 
-pub zero_work-requires-2 : goal.zero_work-requires-2
+pub fill_first-requires-5 : goal.fill_first-requires-5
 unfolding labels_needed
-zero_work-requires-2 c = c.requires.room.labels_room
+fill_first-requires-5 c = c.requires.room.labels_room
 
 pub returns : goal.returns
 unfolding links_needed records_needed work_needed labels_needed
@@ -29,8 +29,8 @@ returns c =
     let records_are : c.records_needed-records.result ≡ records_needed m = c.records_needed-records.ensures a.n a.leaf_size in
     opened_tables (labelled_tables a.control.now a.samples.now a.nodes.now a.links.now a.work.now a.labels.now) m _ _ _ _ _ _
     c.write_control.ensures
-    (c.zero_samples.ensures ∙ ap (λ (x : ℕ). filled x (pos 0) a.samples.now) samples_are)
-    (c.zero_nodes.ensures ∙ ap (λ (x : ℕ). filled (x * record_places) (pos 0) a.nodes.now) records_are)
-    c.zero_links.ensures
-    (c.zero_work.ensures ∙ ap (λ (x : ℕ). filled x 0 a.work.now) records_are)
-    c.zero_work-2.ensures
+    (c.fill_first.ensures ∙ ap (λ (x : ℕ). filled x (pos 0) a.samples.now) samples_are)
+    (c.fill_first-2.ensures ∙ ap (λ (x : ℕ). filled (x * record_places) (pos 0) a.nodes.now) records_are)
+    c.fill_first-3.ensures
+    (c.fill_first-4.ensures ∙ ap (λ (x : ℕ). filled x 0 a.work.now) records_are)
+    c.fill_first-5.ensures

@@ -1,12 +1,13 @@
 -- `tell_label` meets its contract, arm by arm.
-use mathlib.Core.Path.{◌∙◌}
-use Rattle.telling.proofs.Answers.{label_told, label_refused}
+use Rattle.calls.specs.Numbers.{code_of, values_of, result_values}
+use Rattle.labelling.specs.Answered.{answer_by}
+use Rattle.telling.specs.COutcome.{returned_of}
 use Rattle.telling.proofs.tell_label.Goals as goal
 
-pub returns-in-Label : goal.returns-in-Label
-returns-in-Label c =
-    label_told c.args.answer _ _ c.args.out.now _ _ c.put.ensures c.put-in-Label.ensures c.in-Label.is
+pub returns-in-Ok : goal.returns-in-Ok
+unfolding answer_by returned_of code_of values_of result_values
+returns-in-Ok c = rw c.in-Ok.is c.tell.ensures
 
-pub returns-in-Refused : goal.returns-in-Refused
-returns-in-Refused c =
-    c.tell_refusal.ensures ∙ label_refused c.args.answer _ c.args.out.now c.in-Refused.is
+pub returns-in-Err : goal.returns-in-Err
+unfolding answer_by
+returns-in-Err c = rw c.in-Err.is c.tell_refusal.ensures

@@ -1,16 +1,17 @@
 -- `tell_limited` meets its contract, arm by arm.
-use mathlib.Core.Path.{◌∙◌}
-use Rattle.telling.proofs.Answers.{limited_settled, limited_open, limited_refused}
+use Rattle.calls.specs.Numbers.{code_of, values_of, result_values}
+use Rattle.limiting.specs.Answered.{limited_by, answer_by}
+use Rattle.telling.specs.COutcome.{returned_of}
 use Rattle.telling.proofs.tell_limited.Goals as goal
 
-pub returns-in-Settled : goal.returns-in-Settled
-returns-in-Settled c = λ trail.
-    limited_settled c.args.answer trail _ _ _ _ c.args.out.now _ c.put_six.ensures c.in-Settled.is
+pub returns-in-None : goal.returns-in-None
+unfolding answer_by limited_by returned_of code_of values_of result_values
+returns-in-None c = λ trail. rw (c.in-Ok.is, c.in-None.is) c.tell.ensures
 
-pub returns-in-Open : goal.returns-in-Open
-returns-in-Open c = λ trail.
-    limited_open c.args.answer trail _ _ _ _ _ c.args.out.now _ c.put_six-in-Open.ensures c.in-Open.is
+pub returns-in-Some : goal.returns-in-Some
+unfolding answer_by limited_by returned_of code_of values_of result_values
+returns-in-Some c = λ trail. rw (c.in-Ok.is, c.in-Some.is) c.tell-in-Some.ensures
 
-pub returns-in-Refused : goal.returns-in-Refused
-returns-in-Refused c = λ trail.
-    c.tell_refusal.ensures ∙ limited_refused c.args.answer trail _ c.args.out.now c.in-Refused.is
+pub returns-in-Err : goal.returns-in-Err
+unfolding answer_by
+returns-in-Err c = λ trail. rw c.in-Err.is c.tell_refusal.ensures

@@ -1,13 +1,14 @@
 -- `tell_listed` meets its contract, arm by arm.
-use mathlib.Core.Path.{◌∙◌}
-use Rattle.telling.proofs.Answers.{listed_found, listed_refused}
+use Rattle.calls.specs.Numbers.{code_of, values_of, result_values}
+use Rattle.reading.proofs.Records.{nears_length}
+use Rattle.listing.specs.Answered.{answer_by}
+use Rattle.telling.specs.COutcome.{returned_of}
 use Rattle.telling.proofs.tell_listed.Goals as goal
 
-pub returns-in-Found : goal.returns-in-Found
-returns-in-Found c = λ trail list.
-    listed_found c.args.answer trail list _ _ _ c.args.out.now _ _ _ c.put.ensures c.put-in-Found.ensures c.put-in-Found-2.ensures
-    c.in-Found.is
+pub returns-in-Ok : goal.returns-in-Ok
+unfolding answer_by returned_of code_of values_of result_values
+returns-in-Ok c = λ trail list. rw (c.in-Ok.is, nears_length c.in-Ok.listed.many list) c.tell.ensures
 
-pub returns-in-Refused : goal.returns-in-Refused
-returns-in-Refused c = λ trail list.
-    c.tell_refusal.ensures ∙ listed_refused c.args.answer trail list _ c.args.out.now c.in-Refused.is
+pub returns-in-Err : goal.returns-in-Err
+unfolding answer_by
+returns-in-Err c = λ trail list. rw c.in-Err.is c.tell_refusal.ensures

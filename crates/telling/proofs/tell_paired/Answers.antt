@@ -1,30 +1,24 @@
 -- `tell_paired` meets its contract, arm by arm.
-use mathlib.Core.Path.{◌∙◌}
 use native.Mathlib.Omega.{arith}
-use Rattle.pairing.specs.Answered.{leaves_by}
-use Rattle.telling.proofs.Answers.{factory_told, bench_told, paired_refused}
+use lib.Seq.{length-take-le}
+use Rattle.calls.specs.Numbers.{code_of, values_of, result_values}
+use Rattle.pairing.specs.Answered.{answer_by, leaves_by, factory_leaves_by}
+use Rattle.telling.specs.COutcome.{returned_of}
 use Rattle.telling.proofs.tell_paired.Goals as goal
 
 pub overflow_add-leaves : goal.overflow_add-leaves
 unfolding leaves_by
 overflow_add-leaves c =
-    let fits = rw c.in-Factory.is at c.requires in
+    let fits = rw c.in-Ok.is at c.requires in
     record { fits = omega (arith, fits) }
 
-pub overflow_add-leaves-in-Bench : goal.overflow_add-leaves-in-Bench
-unfolding leaves_by
-overflow_add-leaves-in-Bench c =
-    let fits = rw c.in-Bench.is at c.requires in
-    record { fits = omega (arith, fits) }
+-- the factory's trail holds the leaves that are told by their number
+pub returns-in-Ok : goal.returns-in-Ok
+unfolding answer_by factory_leaves_by returned_of code_of values_of result_values
+returns-in-Ok c = λ trail bench_trail room.
+    let fits = rw c.in-Ok.is at room in
+    rw (c.in-Ok.is, length-take-le c.in-Ok.p.leaves trail fits, ← c.library_number-which.ensures) c.tell.ensures
 
-pub returns-in-Factory : goal.returns-in-Factory
-returns-in-Factory c = λ trail bench_trail room.
-    factory_told _ _ _ _ _ trail bench_trail c.args.out.now _ c.args.answer c.put_six.ensures c.in-Factory.is room
-
-pub returns-in-Bench : goal.returns-in-Bench
-returns-in-Bench c = λ trail bench_trail room.
-    bench_told _ _ _ _ _ trail bench_trail c.args.out.now _ c.args.answer c.put_six-in-Bench.ensures c.in-Bench.is room
-
-pub returns-in-Refused : goal.returns-in-Refused
-returns-in-Refused c = λ trail bench_trail room.
-    c.tell_refusal.ensures ∙ paired_refused c.args.answer trail bench_trail _ c.args.out.now c.in-Refused.is
+pub returns-in-Err : goal.returns-in-Err
+unfolding answer_by
+returns-in-Err c = λ trail bench_trail room. rw c.in-Err.is c.tell_refusal.ensures

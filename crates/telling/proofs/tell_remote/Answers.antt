@@ -1,13 +1,13 @@
 -- `tell_remote` meets its contract, arm by arm.
-use mathlib.Core.Path.{◌∙◌}
-use Rattle.telling.proofs.Answers.{remote_at, remote_refused}
+use Rattle.calls.specs.Numbers.{code_of, values_of, result_values}
+use Rattle.remote.specs.Answered.{answer_by}
+use Rattle.telling.specs.COutcome.{returned_of}
 use Rattle.telling.proofs.tell_remote.Goals as goal
 
-pub returns-in-At : goal.returns-in-At
-returns-in-At c = λ trail.
-    remote_at c.args.answer trail _ _ _ _ _ c.args.out.now _ _ _ _ _ c.put.ensures c.put-in-At.ensures c.put-in-At-2.ensures c.put-in-At-3.ensures
-    c.put-in-At-4.ensures c.in-At.is
+pub returns-in-Ok : goal.returns-in-Ok
+unfolding answer_by returned_of code_of values_of result_values
+returns-in-Ok c = λ trail. rw c.in-Ok.is c.tell.ensures
 
-pub returns-in-Refused : goal.returns-in-Refused
-returns-in-Refused c = λ trail.
-    c.tell_refusal.ensures ∙ remote_refused c.args.answer trail _ c.args.out.now c.in-Refused.is
+pub returns-in-Err : goal.returns-in-Err
+unfolding answer_by
+returns-in-Err c = λ trail. rw c.in-Err.is c.tell_refusal.ensures

@@ -53,7 +53,7 @@ descend-leaf-requires c =
     let t = tables a.control.now a.samples.now a.nodes.now a.links.now [] in
     let p = c.requires.0 in
     let down = descendable t p.formed p.long (omega (arith, c.requires.2, tree_size t)) in
-    subst (λ (m : ℕ). Descendable t.nodes m (length a.trace.now)) (sym (c.wide-count.ensures ∙ c.field-3.ensures))
+    subst (λ (m : ℕ). Descendable t.nodes m (length a.trace.now)) (sym (c.from-count.ensures ∙ c.field-3.ensures))
     (subst (λ (n : ℕ). Descendable t.nodes (node_count t) n) (sym (words_size a.trace.now p)) down)
 
 pub node_small-head-requires : goal.node_small-head-requires
@@ -64,7 +64,7 @@ node_small-head-requires c =
     let p = c.requires.0 in
     let some : 0 < length (tree_in t) = omega (arith, c.requires.2, tree_size t) in
     let ok = descendable t p.formed p.long some in
-    let leaf = leaf_is t x c.wide-count.result c.descend-leaf.result (c.wide-count.ensures ∙ c.field-3.ensures) c.descend-leaf.ensures.value in
+    let leaf = leaf_is t x c.from-count.result c.descend-leaf.result (c.from-count.ensures ∙ c.field-3.ensures) c.descend-leaf.ensures.value in
     let inside = leaf_low t x p.formed p.long p.less some in
     (omega (arith, leaf, inside, ok.room, c.descend-leaf.auto.nodes), omega (arith, leaf, inside, ok.few), omega arith)
 
@@ -77,10 +77,10 @@ join-requires c =
     let some : 0 < length (tree_in t) = omega (arith, c.requires.2, tree_size t) in
     let room = space t p.formed p.long in
     let d = c.descend-leaf in
-    let count = c.wide-count.ensures ∙ c.field-3.ensures in
-    let k = c.wide-k.ensures ∙ c.field.ensures in
-    let leaf = leaf_is t x c.wide-count.result d.result count d.ensures.value in
-    let nodes = nodes_are t x c.wide-count.result d.new.nodes count d.ensures.widened in
+    let count = c.from-count.ensures ∙ c.field-3.ensures in
+    let k = c.from-k.ensures ∙ c.field.ensures in
+    let leaf = leaf_is t x c.from-count.result d.result count d.ensures.value in
+    let nodes = nodes_are t x c.from-count.result d.new.nodes count d.ensures.widened in
     let head = head_is t x d.new.nodes d.result c.node_small-head.result nodes leaf c.node_small-head.ensures in (
       omega (arith, head, k, head_low t x p.formed p.long p.less some),
       omega (arith, k, p.less, room.links_room),
@@ -92,7 +92,7 @@ pub overflow_add-more : goal.overflow_add-more
 overflow_add-more c =
     let a = c.args in
     let p = c.requires.0 in
-    omega (arith, c.wide-k.ensures ∙ c.field.ensures, p.less, (space (tables a.control.now a.samples.now a.nodes.now a.links.now []) p.formed p.long).small)
+    omega (arith, c.from-k.ensures ∙ c.field.ensures, p.less, (space (tables a.control.now a.samples.now a.nodes.now a.links.now []) p.formed p.long).small)
 
 pub split_all-requires : goal.split_all-requires
 split_all-requires c =
@@ -102,14 +102,14 @@ split_all-requires c =
     let p = c.requires.0 in
     let some : 0 < length (tree_in t) = omega (arith, c.requires.2, tree_size t) in
     let d = c.descend-leaf in
-    let count = c.wide-count.ensures ∙ c.field-3.ensures in
-    let k = c.wide-k.ensures ∙ c.field.ensures in
-    let leaf = leaf_is t x c.wide-count.result d.result count d.ensures.value in
-    let nodes = nodes_are t x c.wide-count.result d.new.nodes count d.ensures.widened in
+    let count = c.from-count.ensures ∙ c.field-3.ensures in
+    let k = c.from-k.ensures ∙ c.field.ensures in
+    let leaf = leaf_is t x c.from-count.result d.result count d.ensures.value in
+    let nodes = nodes_are t x c.from-count.result d.new.nodes count d.ensures.widened in
     let head = head_is t x d.new.nodes d.result c.node_small-head.result nodes leaf c.node_small-head.ensures in
-    let links = links_are t x c.wide-k.result c.node_small-head.result c.join.new.links k head c.join.ensures in
+    let links = links_are t x c.from-k.result c.node_small-head.result c.join.new.links k head c.join.ensures in
     moved (λ (N : List ℤ) (L : List ℕ) (n k m a : ℕ). Represented N L t.samples n k m × (a < m))
-    nodes links (words_size a.trace.now p) (add-one c.wide-k.result ∙ ap suc k) count leaf
+    nodes links (words_size a.trace.now p) (add-one c.from-k.result ∙ ap suc k) count leaf
     (represented t x p.formed p.long p.less some, leaf_low t x p.formed p.long p.less some)
 
 pub returns : goal.returns
@@ -122,12 +122,12 @@ returns c =
     let p = c.requires.0 in
     let some : 0 < length (tree_in T) = omega (arith, c.requires.2, tree_size T) in
     let d = c.descend-leaf in
-    let count_is = c.wide-count.ensures ∙ c.field-3.ensures in
-    let k_is = c.wide-k.ensures ∙ c.field.ensures in
-    let leaf = leaf_is T x c.wide-count.result d.result count_is d.ensures.value in
-    let nodes = nodes_are T x c.wide-count.result d.new.nodes count_is d.ensures.widened in
+    let count_is = c.from-count.ensures ∙ c.field-3.ensures in
+    let k_is = c.from-k.ensures ∙ c.field.ensures in
+    let leaf = leaf_is T x c.from-count.result d.result count_is d.ensures.value in
+    let nodes = nodes_are T x c.from-count.result d.new.nodes count_is d.ensures.widened in
     let head = head_is T x d.new.nodes d.result c.node_small-head.result nodes leaf c.node_small-head.ensures in
-    let links = links_are T x c.wide-k.result c.node_small-head.result c.join.new.links k_is head c.join.ensures in
+    let links = links_are T x c.from-k.result c.node_small-head.result c.join.new.links k_is head c.join.ensures in
     let k = trace_count T in
     let size = words_size words p in
     let same = joined_is T x p.formed p.long p.less some in
@@ -137,6 +137,6 @@ returns c =
     ∙ moved (λ (N : List ℤ) (L : List ℕ) (s j m a : ℕ). split_all_of s (stored_in T.samples (length words) j) (tree_tables N L m) a
     ≡ split_all_of (measures_of T).leaf_size (traces_in T ++ (x ∷ []))
     (joined_tables (traces_in T) (tree_in T) x (tree_tables_in T)) (leaf_in T x))
-    nodes links (c.wide-leaf_size.ensures ∙ c.field-2.ensures) (add-one c.wide-k.result ∙ ap suc k_is) count_is leaf
+    nodes links (c.from-leaf_size.ensures ∙ c.field-2.ensures) (add-one c.from-k.result ∙ ap suc k_is) count_is leaf
     (ap₂ (λ (l : List Trace) (h : TreeTables). split_all_of (measures_of T).leaf_size l h (leaf_in T x)) traces (sym same))
     ∙ sym (inserted_more (measures_of T) (traces_in T) (tree_in T) x (tree_tables_in T) some)

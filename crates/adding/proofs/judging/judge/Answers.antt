@@ -11,9 +11,10 @@ use Rattle.dstree.specs.Labels.{Label}
 use Rattle.dstree.specs.Refusals.{Condition, first_of}
 use Rattle.dstree.specs.Book.{add_conditions}
 use Rattle.dstree.proofs.Conditions.{first_none}
-use Rattle.tables.specs.Tables.{Tables, labelled_tables, measures_of, trace_count}
+use Rattle.tables.specs.Tables.{Tables, measures_of, trace_count}
+use Rattle.tables.specs.Shared.{tables_lent}
 use Rattle.tables.specs.Answers.{word_of, found_by, made_conditions}
-use Rattle.well_formed.proofs.Refused.{refused_first}
+use Rattle.well_formed.proofs.Refused.{passed_first}
 use Rattle.calls.specs.Effects.{adds}
 use Rattle.adding.proofs.judging.judge.Goals as goal
 
@@ -36,9 +37,9 @@ pub returns-then-wrong : goal.returns-then-wrong
 unfolding found_by word_of first_of
 returns-then-wrong c = λ l.
     let a = c.args in
-    let t = labelled_tables a.control.now a.samples.now a.nodes.now a.links.now a.work.now a.labels.now in
+    let t = tables_lent a.lent in
     let decides = only t a.trace.now c.wide-n.result c.field-capacity.result c.field-k.result (c.wide-n.ensures ∙ c.field.ensures) c.field-capacity.ensures c.field-k.ensures
-    (sym c.judge_tables-made.ensures ∙ ap found_by c.in-Fine.is) l in
+    (sym c.in_ok-judge_tables.ensures) l in
     let other_size = ne_eqb (length a.trace.now) c.wide-n.result c.if-wrong.true in
     rw (decides, other_size)
 
@@ -46,9 +47,9 @@ pub returns-then-outside : goal.returns-then-outside
 unfolding found_by word_of first_of
 returns-then-outside c = λ l.
     let a = c.args in
-    let t = labelled_tables a.control.now a.samples.now a.nodes.now a.links.now a.work.now a.labels.now in
+    let t = tables_lent a.lent in
     let decides = only t a.trace.now c.wide-n.result c.field-capacity.result c.field-k.result (c.wide-n.ensures ∙ c.field.ensures) c.field-capacity.ensures c.field-k.ensures
-    (sym c.judge_tables-made.ensures ∙ ap found_by c.in-Fine.is) l in
+    (sym c.in_ok-judge_tables.ensures) l in
     let same_size = eq-eqb (length a.trace.now) c.wide-n.result c.if-wrong.false in
     rw (decides, same_size, ← c.are_samples-outside.ensures, c.if-outside.true)
 
@@ -56,27 +57,27 @@ pub returns-then-full : goal.returns-then-full
 unfolding found_by word_of first_of
 returns-then-full c = λ l.
     let a = c.args in
-    let t = labelled_tables a.control.now a.samples.now a.nodes.now a.links.now a.work.now a.labels.now in
+    let t = tables_lent a.lent in
     let decides = only t a.trace.now c.wide-n.result c.field-capacity.result c.field-k.result (c.wide-n.ensures ∙ c.field.ensures) c.field-capacity.ensures c.field-k.ensures
-    (sym c.judge_tables-made.ensures ∙ ap found_by c.in-Fine.is) l in
+    (sym c.in_ok-judge_tables.ensures) l in
     let same_size = eq-eqb (length a.trace.now) c.wide-n.result c.if-wrong.false in
     let at_capacity = eq-eqb c.field-k.result c.field-capacity.result c.if-full.true in
     rw (decides, same_size, ← c.are_samples-outside.ensures, c.if-outside.false, at_capacity)
 
-pub returns-in-Refused : goal.returns-in-Refused
+pub returns-in_err-judge_tables : goal.returns-in_err-judge_tables
 unfolding adds
-returns-in-Refused c = λ l.
+returns-in_err-judge_tables c = λ l.
     let a = c.args in
-    let t = labelled_tables a.control.now a.samples.now a.nodes.now a.links.now a.work.now a.labels.now in
-    refused_first (made_conditions t) _ _ (sym c.judge_tables-made.ensures ∙ ap found_by c.in-Refused.is)
+    let t = tables_lent a.lent in
+    passed_first (made_conditions t) _ _ _ c.from_residual.ensures.1 c.in_err-judge_tables.ensures
 
-pub returns-else-full : goal.returns-else-full
+pub returns : goal.returns
 unfolding found_by first_of
-returns-else-full c = λ l.
+returns c = λ l.
     let a = c.args in
-    let t = labelled_tables a.control.now a.samples.now a.nodes.now a.links.now a.work.now a.labels.now in
+    let t = tables_lent a.lent in
     let decides = only t a.trace.now c.wide-n.result c.field-capacity.result c.field-k.result (c.wide-n.ensures ∙ c.field.ensures) c.field-capacity.ensures c.field-k.ensures
-    (sym c.judge_tables-made.ensures ∙ ap found_by c.in-Fine.is) l in
+    (sym c.in_ok-judge_tables.ensures) l in
     let same_size = eq-eqb (length a.trace.now) c.wide-n.result c.if-wrong.false in
     let below_capacity = ne_eqb c.field-k.result c.field-capacity.result c.if-full.false in
     rw (decides, same_size, ← c.are_samples-outside.ensures, c.if-outside.false, below_capacity)

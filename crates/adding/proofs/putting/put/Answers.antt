@@ -89,8 +89,8 @@ overflow_mul-at c =
     let p = c.requires in
     let fit = range (tables a.control.now a.samples.now a.nodes.now a.links.now []) p.formed in
     record {
-      fits = samples_fit c.wide-k.result (length a.trace.now)
-          (omega (arith, c.wide-k.ensures ∙ c.field.ensures, p.less, fit.capacity_high)) (omega (arith, words_size a.trace.now p, fit.n_high));
+      fits = samples_fit c.from-k.result (length a.trace.now)
+          (omega (arith, c.from-k.ensures ∙ c.field.ensures, p.less, fit.capacity_high)) (omega (arith, words_size a.trace.now p, fit.n_high));
     }
 
 pub copy_trace-requires : goal.copy_trace-requires
@@ -101,7 +101,7 @@ copy_trace-requires c =
     let t = tables a.control.now a.samples.now a.nodes.now a.links.now [] in
     let size = words_size a.trace.now p in
     let g : suc (trace_count t) * (measures_of t).n ≤ (measures_of t).capacity * (measures_of t).n = mul-le-mul_right (measures_of t).n p.less in
-    let at_is : c.wide-k.result * length a.trace.now ≡ trace_count t * (measures_of t).n = ap₂ ◌*◌ (c.wide-k.ensures ∙ c.field.ensures) size in
+    let at_is : c.from-k.result * length a.trace.now ≡ trace_count t * (measures_of t).n = ap₂ ◌*◌ (c.from-k.ensures ∙ c.field.ensures) size in
     omega (arith, at_is, g, p.long.samples_long, size)
 
 pub insert-more-requires : goal.insert-more-requires
@@ -112,7 +112,7 @@ insert-more-requires c =
     let t = tables a.control.now a.samples.now a.nodes.now a.links.now [] in
     let words = a.trace.now in
     let x = samples_of words in
-    let now = stored_is t words p c.wide-k.result c.copy_trace.new.samples (c.wide-k.ensures ∙ c.field.ensures) c.copy_trace.ensures in
+    let now = stored_is t words p c.from-k.result c.copy_trace.new.samples (c.from-k.ensures ∙ c.field.ensures) c.copy_trace.ensures in
     subst (λ (l : List ℤ). Takes t.control l t.nodes t.links x × (trace_in l (length words) (trace_count t) ≡ x))
     (sym now) (
       takes_stored t x p,
@@ -126,8 +126,8 @@ write_counts-requires c =
     let p = c.requires in
     let t = tables a.control.now a.samples.now a.nodes.now a.links.now [] in
     let x = samples_of a.trace.now in
-    let k_is = c.wide-k.ensures ∙ c.field.ensures in
-    let now = stored_is t a.trace.now p c.wide-k.result c.copy_trace.new.samples k_is c.copy_trace.ensures in
+    let k_is = c.from-k.ensures ∙ c.field.ensures in
+    let now = stored_is t a.trace.now p c.from-k.result c.copy_trace.new.samples k_is c.copy_trace.ensures in
     let after = after_represents t x p.formed p.long p.is_trace_lem p.less in
     let few = (range t p.formed).capacity_high in
     let count : c.insert-more.result ≡ (tree_tables_after t x).count =
@@ -142,12 +142,12 @@ returns c =
     let a = c.args in
     let p = c.requires in
     let t = tables a.control.now a.samples.now a.nodes.now a.links.now work in
-    let k_is = c.wide-k.ensures ∙ c.field.ensures in
-    let now = stored_is t a.trace.now p c.wide-k.result c.copy_trace.new.samples k_is c.copy_trace.ensures in
+    let k_is = c.from-k.ensures ∙ c.field.ensures in
+    let now = stored_is t a.trace.now p c.from-k.result c.copy_trace.new.samples k_is c.copy_trace.ensures in
     let after : tree_tables c.insert-more.new.nodes c.insert-more.new.links c.insert-more.result ≡ tree_tables_after t (samples_of a.trace.now) =
     after_is t a.trace.now p c.copy_trace.new.samples _ now c.insert-more.ensures work in
     let h = tree_tables_after t (samples_of a.trace.now) in
-    let next : c.wide-k.result + 1 ≡ suc (trace_count t) = add-one c.wide-k.result ∙ ap suc k_is in
+    let next : c.from-k.result + 1 ≡ suc (trace_count t) = add-one c.from-k.result ∙ ap suc k_is in
     let control : c.write_counts.new.control ≡ set (set t.control trace_count_place (suc (trace_count t))) node_count_place h.count =
     c.write_counts.ensures ∙ ap₂ (λ (v w : ℕ). set (set t.control trace_count_place v) node_count_place w) next (ap (λ (q : TreeTables). q.count) after) in
     same_tables work control now (ap (λ (q : TreeTables). q.nodes) after) (ap (λ (q : TreeTables). q.links) after)

@@ -16,7 +16,6 @@ module _ (bands by_bound by_upper traces : ℕ) (list₀ : List ℕ) (room : 2 *
   next : (list : List ℕ) (band : ℕ) → band < bands → Added bands by_bound by_upper traces list₀ list band → (list' : List ℕ)
       → list' ≡ with_count list band (count_with by_bound by_upper traces band (count_at list band)) → Added bands by_bound by_upper traces list₀ list' (band + 1)
   next list band h a list' e = record {
-    within = omega (arith, h);
     size = ap length e ∙ (count_length list band new ∙ a.size);
     taken = λ k g. rw e (at k g (same_or_not k band));
     to_come = λ k g i. rw e (count_other list band k new (λ q. omega arith) ∙ a.to_come k (omega arith) i);
@@ -36,7 +35,6 @@ module _ (bands by_bound by_upper traces : ℕ) (list₀ : List ℕ) (room : 2 *
 
 pub loop-band-init : goal.loop-band-init
 loop-band-init c = record {
-  within = omega arith;
   size = refl;
   taken = λ k h. absurd (omega arith);
   to_come = λ k h g. refl;
@@ -53,12 +51,6 @@ count_band-requires c =
       subst (CountFits 8191) (sym (l.invariant.to_come l.band (omega arith) h)) (c.requires.3 l.band h),
     )
 
-pub overflow_add-band : goal.overflow_add-band
-overflow_add-band c = omega (arith, c.loop-band-test.true, c.requires.0)
-
-pub loop-band-smaller : goal.loop-band-smaller
-loop-band-smaller c = omega (arith, c.loop-band-test.true)
-
 pub loop-band-preserved : goal.loop-band-preserved
 loop-band-preserved c =
     let a = c.args in
@@ -70,4 +62,4 @@ shape_of-list c = c.loop-band.invariant.size
 
 pub returns : goal.returns
 returns c =
-    let a = c.loop-band.invariant in record { counts = λ k h. a.taken k (omega (arith, c.loop-band-test.false)); rest = a.rest }
+    let a = c.loop-band.invariant in record { counts = λ k h. a.taken k (omega (arith, c.loop-band.auto.band-end, c.loop-band-test.false)); rest = a.rest }

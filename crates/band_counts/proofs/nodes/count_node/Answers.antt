@@ -59,63 +59,63 @@ module _ {nodes : List ℤ} {links : List ℕ} {k m : ℕ} {query : Trace} {edge
     right_in work h = omega (arith, (right_above given.walks j inside kind).1, h, size_is given.walks)
 
 pub offset_bounds-work-j : goal.offset_bounds-work-j
-offset_bounds-work-j c = let p = c.requires.countable in omega (arith, (room p.0 c.args.j p.2).1)
+offset_bounds-work-j c = let p = c.requires.countable in omega (arith, (room p.0 c.args.j p.1).1)
 
 pub bounds-work-j : goal.bounds-work-j
-bounds-work-j c = let p = c.requires.countable in omega (arith, in_tree p.0.walks c.args.j p.2, c.requires.counted.work_long)
+bounds-work-j c = let p = c.requires.countable in omega (arith, in_tree p.0.walks c.args.j p.1, c.requires.counted.work_long)
 
 pub node_pair-pair-requires : goal.node_pair-pair-requires
 node_pair-pair-requires c =
     let p = c.requires.countable in
     let a = c.args in
-    let in_place = room p.0 a.j p.2 in
-    (in_place.0, in_place.1, (some_edges p.0 a.j p.2).1, p.1, subst (Bounded (record_of a.nodes.now a.j)) (samples_length a.query.now) (p.0.bounded a.j p.2))
-
-pub node_small-kind-requires : goal.node_small-kind-requires
-node_small-kind-requires c = let p = c.requires.countable in let in_place = room p.0 c.args.j p.2 in (in_place.0, in_place.1, omega arith)
+    let in_place = room p.0 a.j p.1 in
+    (in_place.0, in_place.1, (some_edges p.0 a.j p.1).1, subst (Bounded (record_of a.nodes.now a.j)) (samples_length a.query.now.trace.now) (p.0.bounded a.j p.1))
 
 pub node_small-first-requires : goal.node_small-first-requires
-node_small-first-requires c = let p = c.requires.countable in let in_place = room p.0 c.args.j p.2 in (in_place.0, in_place.1, omega arith)
+node_small-first-requires c = let p = c.requires.countable in let in_place = room p.0 c.args.j p.1 in (in_place.0, in_place.1, omega arith)
+
+pub is_leaf-requires : goal.is_leaf-requires
+is_leaf-requires c = let p = c.requires.countable in room p.0 c.args.j p.1
 
 pub list_size-traces-requires : goal.list_size-traces-requires
 list_size-traces-requires c =
     let p = c.requires.countable in
     let w = p.0.walks in
-    (rw c.node_small-first.ensures (first_stored w c.args.j p.2 (sym c.node_small-kind.ensures ∙ c.if-kind-eq0.true)), w.few, w.links_room, w.rising)
+    (rw c.node_small-first.ensures (first_stored w c.args.j p.1 c.if-is_leaf.ensures), w.few, w.links_room, w.rising)
 
 pub overflow_sub-edges : goal.overflow_sub-edges
-overflow_sub-edges c = let p = c.requires.countable in omega (arith, (some_edges p.0 c.args.j p.2).0)
+overflow_sub-edges c = let p = c.requires.countable in omega (arith, (some_edges p.0 c.args.j p.1).0)
 
 pub count_leaf-requires : goal.count_leaf-requires
 count_leaf-requires c =
     let p = c.requires.countable in
-    let e = some_edges p.0 c.args.j p.2 in (
+    let e = some_edges p.0 c.args.j p.1 in (
       omega (arith, e.0, e.1),
       c.requires.counted.list_long,
       omega (arith, c.list_size-traces.ensures.size, p.0.walks.few),
-      λ k h. fits_more (room p.0 c.args.j p.2).1 (c.requires.counted.small k (omega (arith, h))),
+      λ k h. fits_more (room p.0 c.args.j p.1).1 (c.requires.counted.small k (omega (arith, h))),
     )
 
-pub shape_of-list-then-kind-eq0 : goal.shape_of-list-then-kind-eq0
-shape_of-list-then-kind-eq0 c = c.count_leaf.auto.list
+pub shape_of-list-then-is_leaf : goal.shape_of-list-then-is_leaf
+shape_of-list-then-is_leaf c = c.count_leaf.auto.list
 
-pub returns-then-kind-eq0 : goal.returns-then-kind-eq0
-returns-then-kind-eq0 c =
+pub returns-then-is_leaf : goal.returns-then-is_leaf
+returns-then-is_leaf c =
     let a = c.args in
     let p = c.requires.countable in
     let w = p.0.walks in
-    let query = samples_of a.query.now in
+    let query = samples_of a.query.now.trace.now in
     let edges = a.edges.now in
     let counted = c.requires.counted in
     let numbers = numbers_of a.links.now a.k (small_at (record_of a.nodes.now a.j) first_place) in
     let size = c.list_size-traces in
     let many : size.result ≡ length numbers = size.ensures.value ∙ ap (λ (x : ℕ). length (numbers_of a.links.now a.k x)) c.node_small-first.ensures in
     let call = c.count_leaf in
-    let pair = c.node_pair-pair.ensures ∙ pair_is p.0 a.j p.2 a.work.now a.list.now counted in
+    let pair = c.node_pair-pair.ensures ∙ pair_is p.0 a.j p.1 a.work.now a.list.now counted in
     record {
       counted_to = subst (λ (i : ℕ). CountedTo (tree_by a.nodes.now a.links.now a.k a.m) query edges i a.work.now call.new.list) (sym (add-one a.j))
-          (leaf_taken (tree_by a.nodes.now a.links.now a.k a.m) query edges w.shape.children p.0.edged a.j (in_tree w a.j p.2)
-          a.work.now a.list.now counted numbers (leaf_is w a.j p.2 (sym c.node_small-kind.ensures ∙ c.if-kind-eq0.true))
+          (leaf_taken (tree_by a.nodes.now a.links.now a.k a.m) query edges w.shape.children p.0.edged a.j (in_tree w a.j p.1)
+          a.work.now a.list.now counted numbers (leaf_is w a.j p.1 c.if-is_leaf.ensures)
           (omega (arith, many, size.ensures.size, w.few)) call.new.list call.auto.list
           (λ k h. call.ensures.counts k h
           ∙ ap₂ (λ (a b : ℕ). count_with (by_bound_in a) (by_upper_in a) b k (count_at c.args.list.now k)) pair many));
@@ -123,27 +123,27 @@ returns-then-kind-eq0 c =
     }
 
 pub node_small-right-requires : goal.node_small-right-requires
-node_small-right-requires c = let p = c.requires.countable in let in_place = room p.0 c.args.j p.2 in (in_place.0, in_place.1, omega arith)
+node_small-right-requires c = let p = c.requires.countable in let in_place = room p.0 c.args.j p.1 in (in_place.0, in_place.1, omega arith)
 
 pub offset_bounds-work-first : goal.offset_bounds-work-first
 offset_bounds-work-first c =
     let p = c.requires.countable in
-    omega (arith, c.node_small-first.ensures, left_low p.0 c.args.j p.2 (omega (arith, c.if-kind-eq0.false, c.node_small-kind.ensures)))
+    omega (arith, c.node_small-first.ensures, left_low p.0 c.args.j p.1 c.if-is_leaf.ensures)
 
 pub bounds-work-first : goal.bounds-work-first
 bounds-work-first c =
     let p = c.requires.countable in
-    omega (arith, c.node_small-first.ensures, left_in p.0 c.args.j p.2 (omega (arith, c.if-kind-eq0.false, c.node_small-kind.ensures)) c.args.work.now c.requires.counted.work_long)
+    omega (arith, c.node_small-first.ensures, left_in p.0 c.args.j p.1 c.if-is_leaf.ensures c.args.work.now c.requires.counted.work_long)
 
 pub offset_bounds-work-right : goal.offset_bounds-work-right
 offset_bounds-work-right c =
     let p = c.requires.countable in
-    omega (arith, c.node_small-right.ensures, right_low p.0 c.args.j p.2 (omega (arith, c.if-kind-eq0.false, c.node_small-kind.ensures)))
+    omega (arith, c.node_small-right.ensures, right_low p.0 c.args.j p.1 c.if-is_leaf.ensures)
 
 pub bounds-work-right : goal.bounds-work-right
 bounds-work-right c =
     let p = c.requires.countable in
-    let within = right_in p.0 c.args.j p.2 (omega (arith, c.if-kind-eq0.false, c.node_small-kind.ensures)) c.args.work.now c.requires.counted.work_long in
+    let within = right_in p.0 c.args.j p.1 c.if-is_leaf.ensures c.args.work.now c.requires.counted.work_long in
     simp length-set (omega (arith, c.node_small-right.ensures, within))
 
 pub shape_of-work : goal.shape_of-work
@@ -154,14 +154,14 @@ returns c =
     let a = c.args in
     let p = c.requires.countable in
     let w = p.0.walks in
-    let query = samples_of a.query.now in
+    let query = samples_of a.query.now.trace.now in
     let edges = a.edges.now in
     let tree = tree_by a.nodes.now a.links.now a.k a.m in
     let r = record_of a.nodes.now a.j in
     let counted = c.requires.counted in
-    let b = inner_is w a.j p.2 (omega (arith, c.if-kind-eq0.false, c.node_small-kind.ensures)) in
-    let pair = c.node_pair-pair.ensures ∙ pair_is p.0 a.j p.2 a.work.now a.list.now counted in
-    let all = inner_taken tree query edges w.shape.children p.0.edged a.j (in_tree w a.j p.2)
+    let b = inner_is w a.j p.1 c.if-is_leaf.ensures in
+    let pair = c.node_pair-pair.ensures ∙ pair_is p.0 a.j p.1 a.work.now a.list.now counted in
+    let all = inner_taken tree query edges w.shape.children p.0.edged a.j (in_tree w a.j p.1)
     a.work.now a.list.now counted b.test (small_at r first_place) (small_at r right_place) b.is in
     record {
       counted_to = same_places tree query edges a.work.now a.list.now a.j c.node_small-first.ensures c.node_small-right.ensures pair all;

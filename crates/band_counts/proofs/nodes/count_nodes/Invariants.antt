@@ -1,6 +1,6 @@
 -- `band_counts::nodes::count_nodes` meets its contract: before the first node nothing is counted, and each turn takes one node (`Turns`).
 use mathlib.Core.Path.{◌≡◌}
-use Prim.Native.Nat.{◌*◌, ◌-◌, ◌≤◌}
+use Prim.Native.Nat.{◌*◌, ◌-◌}
 use lib.ListN.{length, drop}
 use Rattle.segment.specs.Stored.{samples_of}
 use Rattle.tables.specs.Nodes.{tree_by}
@@ -9,9 +9,6 @@ use Rattle.band_counts.proofs.nodes.count_nodes.Given as goal
 
 abbrev pub invariant-loop-j : goal.invariant-loop-j
 invariant-loop-j l =
-    (l.j ≤ l.m) × CountedTo (tree_by l.nodes l.links l.k l.m) (samples_of l.query) l.edges l.j l.work l.list
+    CountedTo (tree_by l.nodes l.links l.k l.m) (samples_of l.query.trace.now) l.edges l.j l.work l.list
     × (drop (2 * (length l.edges - 1)) l.list ≡ drop (2 * (length l.edges - 1)) l.initial.list)
     × (length l.work ≡ length l.initial.work) × (length l.list ≡ length l.initial.list)
-
-abbrev pub decreases-loop-j : goal.decreases-loop-j
-decreases-loop-j l = l.m - l.j

@@ -1,6 +1,6 @@
 -- `band_counts::report::report` meets its contract: the loop's counts are the report (`Places`), and the needed search work is set to zero
 -- behind it.
-use mathlib.Core.Path.{◌≡◌, refl, sym, ap, subst, ◌∙◌}
+use mathlib.Core.Path.{◌≡◌, sym, ap, subst, ◌∙◌}
 use mathlib.Core.List.{List, ◌++◌}
 use Prim.Native.Nat.{ℕ}
 use native.Mathlib.Omega.{arith}
@@ -44,13 +44,13 @@ module _ (t : Tables) where
         subst (λ (j : ℕ). CountedTo (tree_in t) query edges j part list) (sym (tree_size t))
         (subst (λ (tree : Tree). CountedTo tree query edges (node_count t) part list) (same_tree t) all)
 
-pub prefix_sums-requires : goal.prefix_sums-requires
-prefix_sums-requires c =
+pub of-summed-requires : goal.of-summed-requires
+of-summed-requires c =
     let a = c.args in
     let t = records_only a.control.now a.nodes.now a.links.now in
     let query = samples_of a.query.now in
     let edges = a.edges.now in
-    (omega (arith, samples_length a.query.now, few_samples t query edges _ _ c.requires), refl, refl)
+    omega (arith, samples_length a.query.now, few_samples t query edges _ _ c.requires)
 
 pub records_needed-needed-requires : goal.records_needed-needed-requires
 records_needed-needed-requires c =
@@ -58,7 +58,7 @@ records_needed-needed-requires c =
     let t = records_only a.control.now a.nodes.now a.links.now in
     let query = samples_of a.query.now in
     let edges = a.edges.now in
-    omega (arith, c.wider.ensures, c.field-3.ensures, capacity_fits t query edges _ _ c.requires)
+    omega (arith, c.from.ensures, c.field-3.ensures, capacity_fits t query edges _ _ c.requires)
 
 pub slice_bounds-count_nodes-end : goal.slice_bounds-count_nodes-end
 slice_bounds-count_nodes-end c =
@@ -66,7 +66,7 @@ slice_bounds-count_nodes-end c =
     let t = records_only a.control.now a.nodes.now a.links.now in
     let query = samples_of a.query.now in
     let edges = a.edges.now in
-    let needed = needed_is t c.records_needed-needed.result c.wider.result (c.records_needed-needed.ensures (field t.control 0) (field t.control 2)) (c.wider.ensures ∙ c.field-3.ensures) in
+    let needed = needed_is t c.records_needed-needed.result c.from.result (c.records_needed-needed.ensures (field t.control 0) (field t.control 2)) (c.from.ensures ∙ c.field-3.ensures) in
     omega (arith, needed, c.requires.work_long)
 
 pub slice_bounds-count_nodes-end-2 : goal.slice_bounds-count_nodes-end-2
@@ -75,7 +75,7 @@ slice_bounds-count_nodes-end-2 c =
     let t = records_only a.control.now a.nodes.now a.links.now in
     let query = samples_of a.query.now in
     let edges = a.edges.now in
-    let needed = needed_is t c.records_needed-needed.result c.wider.result (c.records_needed-needed.ensures (field t.control 0) (field t.control 2)) (c.wider.ensures ∙ c.field-3.ensures) in
+    let needed = needed_is t c.records_needed-needed.result c.from.result (c.records_needed-needed.ensures (field t.control 0) (field t.control 2)) (c.from.ensures ∙ c.field-3.ensures) in
     sym (length-take-le c.records_needed-needed.result a.work.now (omega (arith, needed, c.requires.work_long)))
 
 pub count_nodes-requires : goal.count_nodes-requires
@@ -84,31 +84,31 @@ count_nodes-requires c =
     let t = records_only a.control.now a.nodes.now a.links.now in
     let query = samples_of a.query.now in
     let edges = a.edges.now in
-    let needed = needed_is t c.records_needed-needed.result c.wider.result (c.records_needed-needed.ensures (field t.control 0) (field t.control 2)) (c.wider.ensures ∙ c.field-3.ensures) in
+    let needed = needed_is t c.records_needed-needed.result c.from.result (c.records_needed-needed.ensures (field t.control 0) (field t.control 2)) (c.from.ensures ∙ c.field-3.ensures) in
     let ready = c.requires in
-    let nodes = c.wide-m.ensures ∙ c.field-2.ensures in
+    let nodes = c.from-m.ensures ∙ c.field-2.ensures in
     let long = length-take-le c.records_needed-needed.result a.work.now (omega (arith, needed, ready.work_long)) in
-    record {
-      countable = (given t query edges c.wide-k.result c.wide-m.result (c.wide-k.ensures ∙ c.field.ensures) nodes _ _ ready, c.prefix_sums.ensures);
+    rw c.of-summed.ensures (record {
+      countable = given t query edges c.from-k.result c.from-m.result (c.from-k.ensures ∙ c.field.ensures) nodes _ _ ready;
       room = (
         omega (arith, long, needed, some_work t query edges _ _ ready),
         omega (arith, long, needed, nodes, nodes_needed t query edges _ _ ready),
         ready.list_long,
       );
-    }
+    })
 
-pub zero_work-requires : goal.zero_work-requires
-zero_work-requires c =
+pub fill_first-requires : goal.fill_first-requires
+fill_first-requires c =
     let a = c.args in
     let t = records_only a.control.now a.nodes.now a.links.now in
     let query = samples_of a.query.now in
     let edges = a.edges.now in
-    let needed = needed_is t c.records_needed-needed.result c.wider.result (c.records_needed-needed.ensures (field t.control 0) (field t.control 2)) (c.wider.ensures ∙ c.field-3.ensures) in
+    let needed = needed_is t c.records_needed-needed.result c.from.result (c.records_needed-needed.ensures (field t.control 0) (field t.control 2)) (c.from.ensures ∙ c.field-3.ensures) in
     let whole = length_front a.work.now c.count_nodes.new.work c.records_needed-needed.result c.count_nodes.auto.work in
     omega (arith, needed, c.requires.work_long, whole)
 
 pub shape_of-work : goal.shape_of-work
-shape_of-work c = c.zero_work.auto.work ∙ length_front c.args.work.now c.count_nodes.new.work c.records_needed-needed.result c.count_nodes.auto.work
+shape_of-work c = c.fill_first.auto.table ∙ length_front c.args.work.now c.count_nodes.new.work c.records_needed-needed.result c.count_nodes.auto.work
 
 pub shape_of-list : goal.shape_of-list
 shape_of-list c = c.count_nodes.auto.list
@@ -119,15 +119,16 @@ returns c =
     let t = records_only a.control.now a.nodes.now a.links.now in
     let query = samples_of a.query.now in
     let edges = a.edges.now in
-    let needed = needed_is t c.records_needed-needed.result c.wider.result (c.records_needed-needed.ensures (field t.control 0) (field t.control 2)) (c.wider.ensures ∙ c.field-3.ensures) in
+    let needed = needed_is t c.records_needed-needed.result c.from.result (c.records_needed-needed.ensures (field t.control 0) (field t.control 2)) (c.from.ensures ∙ c.field-3.ensures) in
     let n = c.records_needed-needed.result in
     let part = c.count_nodes.new.work in
     let list = c.count_nodes.new.list in
-    let all = counted t query edges c.wide-k.result c.wide-m.result (c.wide-k.ensures ∙ c.field.ensures) (c.wide-m.ensures ∙ c.field-2.ensures) part list c.count_nodes.ensures.counted_to in
+    let taken = rw c.of-summed.ensures at c.count_nodes.ensures.counted_to in
+    let all = counted t query edges c.from-k.result c.from-m.result (c.from-k.ensures ∙ c.field.ensures) (c.from-m.ensures ∙ c.field-2.ensures) part list taken in
     -- search work behind the part that was lent
     let behind : drop n (part ++ drop n a.work.now) ≡ drop n a.work.now =
     drop_at part (drop n a.work.now) n (c.count_nodes.auto.work ∙ length-take-le n a.work.now (omega (arith, needed, c.requires.work_long))) in
     record {
       list_after = report_is (tree_in t) query edges part list a.list.now all c.count_nodes.ensures.rest;
-      zero = c.zero_work.ensures ∙ (ap (λ (l : List ℕ). replicate n 0 ++ l) behind ∙ ap (λ (i : ℕ). filled i 0 a.work.now) needed);
+      zero = c.fill_first.ensures ∙ (ap (λ (l : List ℕ). replicate n 0 ++ l) behind ∙ ap (λ (i : ℕ). filled i 0 a.work.now) needed);
     }

@@ -14,7 +14,7 @@ pub overflow_add-result : goal.overflow_add-result
 overflow_add-result c = omega (arith, (c.requires.2 (marked_yes c.args.marks.now c.args.j c.if-marks-j-ne0.true)).1)
 
 pub returns-then-marks-j-ne0 : goal.returns-then-marks-j-ne0
-returns-then-marks-j-ne0 c = rw (marked_yes c.args.marks.now c.args.j c.if-marks-j-ne0.true) (refl, rw c.narrow.ensures refl)
+returns-then-marks-j-ne0 c = rw (marked_yes c.args.marks.now c.args.j c.if-marks-j-ne0.true) (refl, refl)
 
 pub returns : goal.returns
 returns c =

@@ -21,13 +21,6 @@ note-out-requires c =
       ),
     )
 
-pub overflow_add-j : goal.overflow_add-j
-overflow_add-j c =
-    omega (arith, c.loop-j-test.true, c.requires.0)
-
-pub loop-j-smaller : goal.loop-j-smaller
-loop-j-smaller c = omega (arith, c.loop-j-test.true)
-
 pub loop-j-preserved : goal.loop-j-preserved
 loop-j-preserved c =
     let r = c.note-out in
@@ -35,9 +28,6 @@ loop-j-preserved c =
     let L = c.loop-j in
     writing_next (is_marked a.marks.now) a.count a.trail.now L.trail L.out L.j L.invariant c.loop-j-test.true c.requires.2
     (is_marked a.marks.now L.j) refl r.result r.new.trail r.ensures
-
-pub shape_of-trail : goal.shape_of-trail
-shape_of-trail c = c.loop-j.invariant.size
 
 pub returns : goal.returns
 returns c =

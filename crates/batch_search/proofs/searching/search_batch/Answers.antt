@@ -10,7 +10,7 @@ use Rattle.integer.specs.Written.{Written}
 use Rattle.dstree.specs.Matching.{leaves}
 use Rattle.tables.specs.Tables.{Tables, node_count}
 use Rattle.tables.specs.View.{tree_in}
-use Rattle.search.specs.Searched.{without_work}
+use Rattle.search.specs.Lent.{stored_tables}
 use Rattle.batch_leaves.specs.LeavesRead.{Searchable, marked_of}
 use Rattle.batch_leaves.proofs.Runs.{nodes_few}
 use Rattle.batch_leaves.proofs.Marks.{marked_none}
@@ -46,7 +46,7 @@ search_marks-leaves-requires c =
 pub write_trail-requires : goal.write_trail-requires
 write_trail-requires c =
     let a = c.args in
-    let t = without_work a.control.now a.samples.now a.nodes.now a.links.now in
+    let t = stored_tables a.stored in
     let s = c.requires.0 in
     let m = c.search_marks-leaves in
     let keeps = m.ensures.bests_and_marks (keeps_none t a.queries.now a.many (replicate 32 0) blank (no_mark s)) in
@@ -62,7 +62,7 @@ write_trail-requires c =
 pub returns : goal.returns
 returns c =
     let a = c.args in
-    let t = without_work a.control.now a.samples.now a.nodes.now a.links.now in
+    let t = stored_tables a.stored in
     let s = c.requires.0 in
     let m = c.search_marks-leaves in
     let keeps = m.ensures.bests_and_marks (keeps_none t a.queries.now a.many (replicate 32 0) blank (no_mark s)) in

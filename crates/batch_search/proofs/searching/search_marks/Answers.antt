@@ -11,7 +11,8 @@ use Rattle.dstree.specs.Measures.{measures, records_needed, work_needed}
 use Rattle.dstree.specs.Matching.{leaves}
 use Rattle.tables.specs.Tables.{Tables, measures_of, node_count, filled}
 use Rattle.tables.specs.View.{tree_in}
-use Rattle.search.specs.Searched.{without_work, Ready}
+use Rattle.search.specs.Lent.{stored_tables}
+use Rattle.search.specs.Searched.{Ready}
 use Rattle.search.proofs.Facts.{capacity_fits, nodes_needed}
 use Rattle.search.proofs.Cleared.{as_many, zeroed}
 use Rattle.batch_leaves.specs.LeavesRead.{Searchable, query_at}
@@ -60,38 +61,27 @@ pub records_needed-needed-requires : goal.records_needed-needed-requires
 records_needed-needed-requires c =
     omega (arith, c.wider-capacity.ensures ∙ c.field-2.ensures, capacity_fits _ _ _ (ready c.requires.0))
 
-pub zero_work-requires : goal.zero_work-requires
-zero_work-requires c =
+pub fill_first-requires : goal.fill_first-requires
+fill_first-requires c =
     let a = c.args in
-    let t = without_work a.control.now a.samples.now a.nodes.now a.links.now in
+    let t = stored_tables a.stored in
     let needed = needed_is t (c.wider-capacity.ensures ∙ c.field-2.ensures) c.records_needed-needed.ensures in
     let q = c.search_queries-leaves in
     let h : c.records_needed-needed.result ≤ length (q.new.work ++ drop c.wide-count.result a.work.now) =
     omega (arith, needed, c.requires.2, length_front a.work.now q.new.work c.wide-count.result q.auto.work) in
     h
 
-pub shape_of-work : goal.shape_of-work
-shape_of-work c =
-    let q = c.search_queries-leaves in
-    c.zero_work.auto.work ∙ length_front c.args.work.now q.new.work c.wide-count.result q.auto.work
-
-pub shape_of-bests : goal.shape_of-bests
-shape_of-bests c = c.search_queries-leaves.auto.bests
-
-pub shape_of-marks : goal.shape_of-marks
-shape_of-marks c = c.search_queries-leaves.auto.marks
-
 pub returns : goal.returns
 returns c =
     let a = c.args in
     let q = c.search_queries-leaves in
-    let t = without_work a.control.now a.samples.now a.nodes.now a.links.now in
+    let t = stored_tables a.stored in
     let whole = q.new.work ++ drop c.wide-count.result a.work.now in
     let needed = needed_is t (c.wider-capacity.ensures ∙ c.field-2.ensures) c.records_needed-needed.ensures in
     record {
       bests_and_marks = q.ensures.bests_and_marks;
       counted = q.ensures.counted;
-      zero = zeroed t _ (length (leaves (tree_in t))) (ready c.requires.0) a.work.now whole c.zero_work.new.work
+      zero = zeroed t _ (length (leaves (tree_in t))) (ready c.requires.0) a.work.now whole c.fill_first.new.table
           (behind c.requires.0 a.work.now c.requires.2 (c.wide-count.ensures ∙ c.field.ensures) q.new.work q.auto.work)
-          (c.zero_work.ensures ∙ ap (λ (i : ℕ). filled i 0 whole) needed);
+          (c.fill_first.ensures ∙ ap (λ (i : ℕ). filled i 0 whole) needed);
     }

@@ -4,18 +4,20 @@ use lib.ListN.{length}
 use Rattle.tables.specs.Tables.{node_count}
 use Rattle.tables.specs.View.{shape_in}
 use Rattle.leaf_order.specs.Waits.{remaining}
-use Rattle.search.specs.Searched.{without_work}
+use Rattle.search.specs.Lent.{stored_tables}
 use Rattle.batch_leaves.specs.LeavesRead.{query_at}
 use Rattle.batch_search.proofs.Visits.{BatchState}
 use Rattle.batch_search.proofs.visiting.visit.Given as goal
 
-abbrev pub invariant-loop-bound : goal.invariant-loop-bound
-invariant-loop-bound l =
-    let t = without_work l.control l.samples l.nodes l.links in
-    BatchState t l.queries l.many l.i (shape_in l.nodes (node_count t)) l.initial.bests l.initial.marks l.leaves l.work l.bests l.marks l.waiting l.read
-    × (length l.work ≡ node_count t)
+abbrev pub invariant-loop-leaf : goal.invariant-loop-leaf
+invariant-loop-leaf l =
+    let t = stored_tables l.stored in
+    BatchState t l.queries l.many l.i (shape_in l.stored.nodes.now (node_count t)) l.initial.bests l.initial.marks l.leaves l.heap.keys.now l.bests l.marks
+    l.heap.len l.read
+    × (length l.heap.keys.now ≡ node_count t)
+    × (l.heap.keys.ghost_name ≡ l.initial.heap.keys.ghost_name)
 
-abbrev pub decreases-loop-bound : goal.decreases-loop-bound
-decreases-loop-bound l =
-    let t = without_work l.control l.samples l.nodes l.links in
-    length (remaining (shape_in l.nodes (node_count t)) (query_at t l.queries l.i) l.waiting l.work)
+abbrev pub decreases-loop-leaf : goal.decreases-loop-leaf
+decreases-loop-leaf l =
+    let t = stored_tables l.stored in
+    length (remaining (shape_in l.stored.nodes.now (node_count t)) (query_at t l.queries l.i) l.heap.len l.heap.keys.now)

@@ -1,10 +1,10 @@
 -- `batching::judging::judge` meets its contract: tables are judged first, then the rest.
-use mathlib.Core.Path.{sym, ap, ◌∙◌}
+use mathlib.Core.Path.{sym, ◌∙◌}
 use Rattle.dstree.proofs.Conditions.{first_none}
 use Rattle.tables.specs.View.{tree_in}
 use Rattle.tables.specs.Tables.{labelled_tables}
 use Rattle.tables.specs.Answers.{found_by, made_conditions}
-use Rattle.well_formed.proofs.Refused.{refused_first}
+use Rattle.well_formed.proofs.Refused.{passed_first}
 use Rattle.calls.specs.Effects.{batch_conditions_in}
 use Rattle.batching.proofs.Taken.{own_fits}
 use Rattle.batching.proofs.judging.judge.Goals as goal
@@ -14,20 +14,19 @@ unfolding found_by
 judge_own-requires c =
     let a = c.args in
     let t = labelled_tables a.control.now a.samples.now a.nodes.now a.links.now a.work.now a.labels.now in
-    own_fits t (sym c.judge_tables-made.ensures ∙ ap found_by c.in-Fine.is)
+    own_fits t (sym c.in_ok-judge_tables.ensures)
 
-pub returns-in-Refused : goal.returns-in-Refused
-returns-in-Refused c =
+pub returns-in_err-judge_tables : goal.returns-in_err-judge_tables
+returns-in_err-judge_tables c =
     let a = c.args in
     let t = labelled_tables a.control.now a.samples.now a.nodes.now a.links.now a.work.now a.labels.now in
-    refused_first (made_conditions t) (batch_conditions_in t a.many a.places a.queries.now a.trail.now) _
-    (sym c.judge_tables-made.ensures ∙ ap found_by c.in-Refused.is)
+    passed_first (made_conditions t) (batch_conditions_in t a.many a.places a.queries.now a.trail.now) _ _ c.from_residual.ensures.1 c.in_err-judge_tables.ensures
 
-pub returns-in-Fine : goal.returns-in-Fine
+pub returns : goal.returns
 unfolding found_by tree_in
-returns-in-Fine c =
+returns c =
     let a = c.args in
     let t = labelled_tables a.control.now a.samples.now a.nodes.now a.links.now a.work.now a.labels.now in
     c.judge_own.ensures t.samples t.links t.work
     ∙ sym (first_none (made_conditions t) (batch_conditions_in t a.many a.places a.queries.now a.trail.now)
-    (sym c.judge_tables-made.ensures ∙ ap found_by c.in-Fine.is))
+    (sym c.in_ok-judge_tables.ensures))

@@ -23,8 +23,8 @@ pub loop-t-init : goal.loop-t-init
 loop-t-init c =
     let a = c.args in (
       omega (arith, c.requires.0.inside),
-      ap (marks_by (left a.samples.now a.n a.k a.first a.last a.by_scatter (read w64 a.threshold)) a.marks.now)
-          (met_start a.links.now a.k a.head c.requires.0.inside),
+      ap (marks_by (left a.leaf.samples.now a.leaf.n a.leaf.k a.on.first a.on.last a.by_scatter (read w64 a.threshold)) a.marks.now)
+          (met_start a.leaf.links.now a.leaf.k a.leaf.head c.requires.0.inside),
       c.requires.2,
     )
 
@@ -39,19 +39,19 @@ behind-t-requires c = omega (arith, c.requires.0.links_room)
 
 pub loop-t-smaller : goal.loop-t-smaller
 loop-t-smaller c =
-    omega (arith, c.behind-t.ensures, behind_rises c.args.links.now c.args.k c.requires.0.rising c.loop-t.t c.loop-t-test.true)
+    omega (arith, c.behind-t.ensures, behind_rises c.args.leaf.links.now c.args.leaf.k c.requires.0.rising c.loop-t.t c.loop-t-test.true)
 
 pub loop-t-preserved : goal.loop-t-preserved
 loop-t-preserved c =
     let a = c.args in
     let l = c.loop-t in
-    let h : l.t < a.k = c.loop-t-test.true in
-    let put = step a.samples.now a.n a.k a.first a.last a.by_scatter (read w64 a.threshold) in
+    let h : l.t < a.leaf.k = c.loop-t-test.true in
+    let put = step a.leaf.samples.now a.leaf.n a.leaf.k a.on.first a.on.last a.by_scatter (read w64 a.threshold) in
     let e : set l.marks l.t c.side_of.result ≡ put l.marks l.t =
-    ap (set l.marks l.t) (rw (stored_at a.samples.now a.n a.k l.t h) c.side_of.ensures) in (
-      omega (arith, c.behind-t.ensures, behind_rises a.links.now a.k c.requires.0.rising l.t h),
-      ap₂ (λ (m : List ℕ) (u : ℕ). foldl put m (met_from a.links.now a.k u)) e c.behind-t.ensures
-          ∙ (sym (fold_more put a.links.now a.k c.requires.0.rising l.marks l.t h) ∙ l.invariant.1),
+    ap (set l.marks l.t) (rw (stored_at a.leaf.samples.now a.leaf.n a.leaf.k l.t h) c.side_of.ensures) in (
+      omega (arith, c.behind-t.ensures, behind_rises a.leaf.links.now a.leaf.k c.requires.0.rising l.t h),
+      ap₂ (λ (m : List ℕ) (u : ℕ). foldl put m (met_from a.leaf.links.now a.leaf.k u)) e c.behind-t.ensures
+          ∙ (sym (fold_more put a.leaf.links.now a.leaf.k c.requires.0.rising l.marks l.t h) ∙ l.invariant.1),
       length-set l.marks l.t c.side_of.result ∙ l.invariant.2,
     )
 
@@ -59,10 +59,10 @@ pub returns : goal.returns
 returns c =
     let a = c.args in
     let l = c.loop-t in
-    let put = step a.samples.now a.n a.k a.first a.last a.by_scatter (read w64 a.threshold) in
-    let all : l.marks ≡ marks_by (left a.samples.now a.n a.k a.first a.last a.by_scatter (read w64 a.threshold)) a.marks.now (numbers_of a.links.now a.k a.head) =
-    sym (fold_end put a.links.now a.k l.marks l.t c.loop-t-test.false) ∙ l.invariant.1 in record {
-      marks_after = subst (λ (z : ℤ). l.marks ≡ marks_by (left a.samples.now a.n a.k a.first a.last a.by_scatter z) a.marks.now (numbers_of a.links.now a.k a.head))
+    let put = step a.leaf.samples.now a.leaf.n a.leaf.k a.on.first a.on.last a.by_scatter (read w64 a.threshold) in
+    let all : l.marks ≡ marks_by (left a.leaf.samples.now a.leaf.n a.leaf.k a.on.first a.on.last a.by_scatter (read w64 a.threshold)) a.marks.now (numbers_of a.leaf.links.now a.leaf.k a.leaf.head) =
+    sym (fold_end put a.leaf.links.now a.leaf.k l.marks l.t c.loop-t-test.false) ∙ l.invariant.1 in record {
+      marks_after = subst (λ (z : ℤ). l.marks ≡ marks_by (left a.leaf.samples.now a.leaf.n a.leaf.k a.on.first a.on.last a.by_scatter z) a.marks.now (numbers_of a.leaf.links.now a.leaf.k a.leaf.head))
           (to_z-of_z c.ranges.threshold) all;
       size = l.invariant.2;
     }

@@ -19,10 +19,10 @@ left samples n k first last by_scatter threshold t = sends_left (test_by first l
 
 abbrev pub invariant-loop-t : goal.invariant-loop-t
 invariant-loop-t l =
-    (l.t ≤ l.k)
-    × (marks_by (left l.samples l.n l.k l.first l.last l.by_scatter l.threshold) l.marks (met_from l.links l.k l.t)
-    ≡ marks_by (left l.samples l.n l.k l.first l.last l.by_scatter l.threshold) l.initial.marks (numbers_of l.links l.k l.head))
+    (l.t ≤ l.leaf.k)
+    × (marks_by (left l.leaf.samples.now l.leaf.n l.leaf.k l.on.first l.on.last l.by_scatter l.threshold) l.marks (met_from l.leaf.links.now l.leaf.k l.t)
+    ≡ marks_by (left l.leaf.samples.now l.leaf.n l.leaf.k l.on.first l.on.last l.by_scatter l.threshold) l.initial.marks (numbers_of l.leaf.links.now l.leaf.k l.leaf.head))
     × (length l.marks ≡ 4096)
 
 abbrev pub decreases-loop-t : goal.decreases-loop-t
-decreases-loop-t l = l.k - l.t
+decreases-loop-t l = l.leaf.k - l.t

@@ -1,20 +1,24 @@
 -- `candidate::parting::look_along` meets its contract: while the loop goes on, all traces taken so far went to the first one's side.
-use mathlib.Core.Path.{◌≡◌, sym, subst, ◌∙◌}
+use mathlib.Core.Path.{◌≡◌, sym, ap, subst, ◌∙◌}
 use mathlib.Core.Bool.{Bool, true, false}
-use mathlib.Core.List.{List}
-use Prim.Native.Nat.{ℕ, ◌+◌}
+use mathlib.Core.List.{List, [], ◌∷◌}
+use Prim.Native.Nat.{ℕ, ◌+◌, ◌<◌}
 use native.Mathlib.Omega.{arith}
 use lib.IntN.{ℤ}
-use lib.ListN.{take}
+use lib.ListN.{length, get_or}
 use mir.Syntax.{w64}
 use mir.Val.{SFits}
 use mir.Facts.{to_z-of_z}
-use Rattle.integer.proofs.Lists.{In, in_nil}
+use Rattle.std.proofs.lemmas.List.{take_all}
+use Rattle.integer.proofs.Lists.{In, in_nil, in_get_or}
 use Rattle.integer.proofs.Width.{read}
 use Rattle.dstree.specs.Measures.{Trace}
+use Rattle.dstree.specs.Node.{Test, sends_left}
 use Rattle.dstree.specs.Adding.{goes_by}
-use Rattle.tables.specs.Walk.{stored_in}
-use Rattle.leaf_figures.proofs.Listing.{all_taken_more}
+use Rattle.tables.proofs.Listed.{stored_at}
+use Rattle.leaf_figures.specs.Rows.{trace_of, stored_of}
+use Rattle.leaf_figures.specs.declared.listed.Listed.{Listed}
+use Rattle.leaf_figures.proofs.Listing.{all_taken_more, listed_run, listed_row}
 use Rattle.candidate.specs.Siding.{trial_test}
 use Rattle.candidate.specs.declared.siding.Trial.{Trial}
 use Rattle.candidate.specs.Parting.{look_of}
@@ -26,58 +30,74 @@ answer : (stored : List Trace) (c : Trial) (threshold : ℤ) → SFits w64 thres
     → look both taken ≡ look_of stored (trial_test c (read w64 threshold)) numbers → look both taken ≡ look_of stored (trial_test c threshold) numbers
 answer stored c threshold fits numbers both taken e = subst (λ (z : ℤ). look both taken ≡ look_of stored (trial_test c z) numbers) (to_z-of_z fits) e
 
-pub returns-then-count-eq0 : goal.returns-then-count-eq0
-returns-then-count-eq0 c =
-    let none = seen_none (stored_in c.args.samples.now c.args.n c.args.k) c.args.list.now c.args.count (omega (arith, c.requires.0.places, c.requires.0.few)) (trial_test c.args.c c.args.threshold)
-    true
-    (λ t i. absurd (in_nil (subst (λ (m : ℕ). In t (take m c.args.list.now)) c.if-count-eq0.true i))) in
-    (subst (λ (m : ℕ). look false m ≡ look_of (stored_in c.args.samples.now c.args.n c.args.k) (trial_test c.args.c c.args.threshold) (take c.args.count c.args.list.now)) c.if-count-eq0.true none)
+-- the way of a listed trace is that of the stored one
+goes_at : (l : Listed) (test : Test) (i : ℕ) {t : ℕ} (goes : Bool) → i < length l.list.now → t ≡ get_or l.list.now i 0 → goes ≡ sends_left test (trace_of l t)
+    → goes_by (stored_of l) test (get_or l.list.now i 0) ≡ goes
+goes_at l test i goes h e is =
+    let t = get_or l.list.now i 0 in
+    ap (sends_left test) (stored_at l.samples.now l.n l.k t (l.inside.below t (in_get_or l.list.now i 0 h)) ∙ ap (trace_of l) (sym e)) ∙ sym is
 
-pub goes_listed-side-requires : goal.goes_listed-side-requires
-goes_listed-side-requires c =
-    let p = c.requires in
-    (p.0, p.1, p.2, p.3, omega (arith, c.if-count-eq0.false))
+listed : (l : Listed) (i : ℕ) {t : ℕ} → i < length l.list.now → t ≡ get_or l.list.now i 0 → In t l.list.now
+listed l i h e = subst (λ (t : ℕ). In t l.list.now) (sym e) (in_get_or l.list.now i 0 h)
+
+-- in no list there is nothing
+nothing_in : (list : List ℕ) → length list ≡ 0 → {t : ℕ} → In t list → ⊥
+nothing_in [] e i = in_nil i
+nothing_in (x ∷ l) e i = absurd (omega (arith, e))
+
+pub returns-then-list-eq0 : goal.returns-then-list-eq0
+returns-then-list-eq0 c =
+    let l = c.args.rows.traces in
+    subst (λ (m : ℕ). look false m ≡ look_of (stored_of l) (trial_test c.args.c c.args.threshold) l.list.now) c.if-list-eq0.true
+    (seen_none (stored_of l) l.list.now (trial_test c.args.c c.args.threshold) true (λ t i. absurd (nothing_in l.list.now c.if-list-eq0.true i)))
+
+pub goes_left_at-side-requires : goal.goes_left_at-side-requires
+goes_left_at-side-requires c =
+    let a = c.args in
+    let t = c.from.result in
+    let l = a.rows.traces in
+    let i = listed l 0 (omega (arith, c.if-list-eq0.false)) c.from.ensures in
+    (listed_run l a.c.on t i c.requires, listed_row l a.rows.table.now.place a.c.on c.column_of-column.result t i c.column_of-column.ensures.rows)
 
 pub loop-i-init : goal.loop-i-init
 loop-i-init c =
-    let h = c.if-count-eq0.false in (
-      omega arith,
-      omega (arith, h),
-      all_taken_more c.args.list.now (λ (t : ℕ). goes_by (stored_in c.args.samples.now c.args.n c.args.k) (trial_test c.args.c (read w64 c.args.threshold)) t ≡ c.goes_listed-side.result) 0
-          (omega (arith, c.requires.0.places, c.requires.0.few, h))
-          (λ t i. absurd (in_nil i)) (sym c.goes_listed-side.ensures),
-    )
+    let l = c.args.rows.traces in
+    let test = trial_test c.args.c (read w64 c.args.threshold) in
+    let some : 0 < length l.list.now = omega (arith, c.if-list-eq0.false) in
+    all_taken_more l.list.now (λ (t : ℕ). goes_by (stored_of l) test t ≡ c.goes_left_at-side.result) 0 some (λ t i. absurd (in_nil i))
+    (goes_at l test 0 c.goes_left_at-side.result some c.from.ensures c.goes_left_at-side.ensures)
 
-pub goes_listed-goes-requires : goal.goes_listed-goes-requires
-goes_listed-goes-requires c = let p = c.requires in (p.0, p.1, p.2, p.3, c.loop-i-test.true)
-
-pub overflow_add-next : goal.overflow_add-next
-overflow_add-next c = omega (arith, c.loop-i-test.true, c.requires.0.few)
+pub goes_left_at-goes-requires : goal.goes_left_at-goes-requires
+goes_left_at-goes-requires c =
+    let a = c.args in
+    let t = c.from-in-loop-i.result in
+    let l = a.rows.traces in
+    let i = listed l c.loop-i.i c.loop-i-test.true c.from-in-loop-i.ensures in
+    (listed_run l a.c.on t i c.requires, listed_row l a.rows.table.now.place a.c.on c.column_of-column.result t i c.column_of-column.ensures.rows)
 
 pub returns-then-goes-side : goal.returns-then-goes-side
 returns-then-goes-side c =
-    let l = c.loop-i in
-    answer (stored_in c.args.samples.now c.args.n c.args.k) c.args.c c.args.threshold c.ranges.threshold (take c.args.count c.args.list.now) true (l.i + 1)
-    (seen_found (stored_in c.args.samples.now c.args.n c.args.k) c.args.list.now c.args.count (omega (arith, c.requires.0.places, c.requires.0.few))
-    (trial_test c.args.c (read w64 c.args.threshold)) _ l.i l.invariant.0 c.loop-i-test.true l.invariant.2
-    (sym c.goes_listed-goes.ensures ∙ differ _ _ c.if-goes-side.true))
+    let l = c.args.rows.traces in
+    let i = c.loop-i.i in
+    let test = trial_test c.args.c (read w64 c.args.threshold) in
+    let goes = c.goes_left_at-goes in
+    answer (stored_of l) c.args.c c.args.threshold c.ranges.threshold l.list.now true (i + 1)
+    (seen_found (stored_of l) l.list.now test c.goes_left_at-side.result i (omega (arith, c.loop-i.auto.i)) c.loop-i-test.true c.loop-i.invariant
+    (goes_at l test i goes.result c.loop-i-test.true c.from-in-loop-i.ensures goes.ensures ∙ differ _ _ c.if-goes-side.true))
 
 pub loop-i-preserved : goal.loop-i-preserved
 loop-i-preserved c =
-    let l = c.loop-i in
-    let side = c.goes_listed-side.result in (
-      omega arith,
-      omega (arith, c.loop-i-test.true),
-      all_taken_more c.args.list.now (λ (t : ℕ). goes_by (stored_in c.args.samples.now c.args.n c.args.k) (trial_test c.args.c (read w64 c.args.threshold)) t ≡ side) l.i
-          (omega (arith, c.requires.0.places, c.requires.0.few, c.loop-i-test.true))
-          l.invariant.2 (sym c.goes_listed-goes.ensures ∙ alike _ _ c.if-goes-side.false),
-    )
+    let l = c.args.rows.traces in
+    let i = c.loop-i.i in
+    let test = trial_test c.args.c (read w64 c.args.threshold) in
+    let goes = c.goes_left_at-goes in
+    all_taken_more l.list.now (λ (t : ℕ). goes_by (stored_of l) test t ≡ c.goes_left_at-side.result) i c.loop-i-test.true c.loop-i.invariant
+    (goes_at l test i goes.result c.loop-i-test.true c.from-in-loop-i.ensures goes.ensures ∙ alike _ _ c.if-goes-side.false)
 
 pub returns : goal.returns
 returns c =
-    let l = c.loop-i in
-    let all : l.i ≡ c.args.count = omega (arith, l.invariant.1, c.loop-i-test.false) in
-    answer (stored_in c.args.samples.now c.args.n c.args.k) c.args.c c.args.threshold c.ranges.threshold (take c.args.count c.args.list.now) false c.args.count
-    (seen_none (stored_in c.args.samples.now c.args.n c.args.k) c.args.list.now c.args.count (omega (arith, c.requires.0.places, c.requires.0.few)) (trial_test c.args.c (read w64 c.args.threshold))
-    _
-    (λ t i. l.invariant.2 t (subst (λ (m : ℕ). In t (take m c.args.list.now)) (sym all) i)))
+    let l = c.args.rows.traces in
+    let test = trial_test c.args.c (read w64 c.args.threshold) in
+    answer (stored_of l) c.args.c c.args.threshold c.ranges.threshold l.list.now false (length l.list.now)
+    (seen_none (stored_of l) l.list.now test c.goes_left_at-side.result
+    (λ t i. c.loop-i.invariant t (subst (In t) (sym (take_all c.loop-i.i l.list.now c.loop-i-test.false)) i)))

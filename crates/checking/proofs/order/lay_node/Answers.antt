@@ -51,8 +51,8 @@ module _ {nodes : List ℤ} {links : List ℕ} {k m : ℕ} (w : Walks nodes link
           length-append (traces_below tree (small_at (record_of nodes j) first_place)) (traces_below tree (small_at (record_of nodes j) right_place)),
         )
 
-pub node_small-kind-requires : goal.node_small-kind-requires
-node_small-kind-requires c = let h = in_table c.requires.0 c.args.j c.requires.1 in (h.0, h.1, omega arith)
+pub is_leaf-requires : goal.is_leaf-requires
+is_leaf-requires c = in_table c.requires.0 c.args.j c.requires.1
 
 pub node_small-first-requires : goal.node_small-first-requires
 node_small-first-requires c = let h = in_table c.requires.0 c.args.j c.requires.1 in (h.0, h.1, omega arith)
@@ -67,7 +67,7 @@ pub put_list-requires : goal.put_list-requires
 put_list-requires c =
     let w = c.requires.0 in
     let j = c.args.j in
-    let kind = (sym c.node_small-kind.ensures ∙ c.if-kind-eq0.true) in
+    let kind = c.if-is_leaf.ensures in
     let links = c.args.links.now in
     let k = c.args.k in
     let below = ap length (leaf_below w j c.requires.1 kind) in
@@ -77,57 +77,56 @@ put_list-requires c =
       w.few,
       w.links_room,
       w.rising,
-      c.requires.3.order_places,
-      omega (arith, c.wide.ensures, fits w j c.requires.1 c.args.starts.now c.args.order.now c.requires.3, below, size),
+      omega (arith, c.from.ensures, fits w j c.requires.1 c.args.starts.now c.args.order.now c.requires.3, below, size),
     )
 
-pub returns-then-kind-eq0 : goal.returns-then-kind-eq0
-returns-then-kind-eq0 c =
+pub returns-then-is_leaf : goal.returns-then-is_leaf
+returns-then-is_leaf c =
     let w = c.requires.0 in
     let a = c.args in
-    let kind = (sym c.node_small-kind.ensures ∙ c.if-kind-eq0.true) in
+    let kind = c.if-is_leaf.ensures in
     let after = c.put_list.new.order in
     laid_leaf w.shape (in_tree w a.j c.requires.1) c.requires.3 (leaf_is w a.j c.requires.1 kind)
     (subst (λ (l : List ℕ). PutFrom a.order.now after (get_or a.starts.now a.j 0) l) (sym (leaf_below w a.j c.requires.1 kind))
-    (subst (λ (x : ℕ). PutFrom a.order.now after x (numbers_of a.links.now a.k (small_at (record_of a.nodes.now a.j) first_place))) c.wide.ensures
-    (subst (λ (x : ℕ). PutFrom a.order.now after c.wide.result (numbers_of a.links.now a.k x)) c.node_small-first.ensures c.put_list.ensures)))
+    (subst (λ (x : ℕ). PutFrom a.order.now after x (numbers_of a.links.now a.k (small_at (record_of a.nodes.now a.j) first_place))) c.from.ensures
+    (subst (λ (x : ℕ). PutFrom a.order.now after c.from.result (numbers_of a.links.now a.k x)) c.node_small-first.ensures c.put_list.ensures)))
 
 pub node_small-right-requires : goal.node_small-right-requires
 node_small-right-requires c = let h = in_table c.requires.0 c.args.j c.requires.1 in (h.0, h.1, omega arith)
 
 pub offset_bounds-sizes-first : goal.offset_bounds-sizes-first
 offset_bounds-sizes-first c =
-    let inner : 1 ≤ small_at (record_of c.args.nodes.now c.args.j) kind_place = omega (arith, c.if-kind-eq0.false, c.node_small-kind.ensures) in
+    let inner = c.if-is_leaf.ensures in
     omega (arith, c.node_small-first.ensures, (left_above c.requires.0 c.args.j c.requires.1 inner).1, c.requires.0.nodes_few)
 
 pub bounds-sizes-first : goal.bounds-sizes-first
 bounds-sizes-first c =
-    let inner : 1 ≤ small_at (record_of c.args.nodes.now c.args.j) kind_place = omega (arith, c.if-kind-eq0.false, c.node_small-kind.ensures) in
+    let inner = c.if-is_leaf.ensures in
     omega (arith, c.node_small-first.ensures, (left_above c.requires.0 c.args.j c.requires.1 inner).1, c.requires.0.nodes_few, c.requires.2.places)
 
 pub offset_bounds-starts-first : goal.offset_bounds-starts-first
 offset_bounds-starts-first c =
-    let inner : 1 ≤ small_at (record_of c.args.nodes.now c.args.j) kind_place = omega (arith, c.if-kind-eq0.false, c.node_small-kind.ensures) in
+    let inner = c.if-is_leaf.ensures in
     omega (arith, c.node_small-first.ensures, (left_above c.requires.0 c.args.j c.requires.1 inner).1, c.requires.0.nodes_few)
 
 pub bounds-starts-first : goal.bounds-starts-first
 bounds-starts-first c =
-    let inner : 1 ≤ small_at (record_of c.args.nodes.now c.args.j) kind_place = omega (arith, c.if-kind-eq0.false, c.node_small-kind.ensures) in
+    let inner = c.if-is_leaf.ensures in
     omega (arith, c.node_small-first.ensures, (left_above c.requires.0 c.args.j c.requires.1 inner).1, c.requires.0.nodes_few, c.requires.3.starts_places)
 
 pub overflow_add-starts : goal.overflow_add-starts
 overflow_add-starts c =
-    let inner : 1 ≤ small_at (record_of c.args.nodes.now c.args.j) kind_place = omega (arith, c.if-kind-eq0.false, c.node_small-kind.ensures) in
+    let inner = c.if-is_leaf.ensures in
     omega (arith, second c.requires.0 c.args.j c.requires.1 inner c.args.sizes.now c.requires.2 c.args.starts.now c.args.order.now c.requires.3 c.node_small-first.result c.node_small-first.ensures)
 
 pub offset_bounds-starts-right : goal.offset_bounds-starts-right
 offset_bounds-starts-right c =
-    let inner : 1 ≤ small_at (record_of c.args.nodes.now c.args.j) kind_place = omega (arith, c.if-kind-eq0.false, c.node_small-kind.ensures) in
+    let inner = c.if-is_leaf.ensures in
     omega (arith, c.node_small-right.ensures, (right_above c.requires.0 c.args.j c.requires.1 inner).1, c.requires.0.nodes_few)
 
 pub bounds-starts-right : goal.bounds-starts-right
 bounds-starts-right c =
-    let inner : 1 ≤ small_at (record_of c.args.nodes.now c.args.j) kind_place = omega (arith, c.if-kind-eq0.false, c.node_small-kind.ensures) in
+    let inner = c.if-is_leaf.ensures in
     omega (
       arith,
       c.node_small-right.ensures,
@@ -139,7 +138,7 @@ bounds-starts-right c =
 
 pub returns : goal.returns
 returns c =
-    let inner : 1 ≤ small_at (record_of c.args.nodes.now c.args.j) kind_place = omega (arith, c.if-kind-eq0.false, c.node_small-kind.ensures) in
+    let inner = c.if-is_leaf.ensures in
     let a = c.args in
     let w = c.requires.0 in
     let h = c.requires.1 in

@@ -11,27 +11,21 @@ use Rattle.checking.proofs.Laying.{laid_none, laid_out}
 use Rattle.checking.proofs.order.lay_out.Goals as goal
 
 pub bounds-starts-0 : goal.bounds-starts-0
-bounds-starts-0 c = omega (arith, c.requires.2)
+bounds-starts-0 c = omega arith
 
 pub loop-j-init : goal.loop-j-init
 loop-j-init c =
-    (omega arith, laid_none c.requires.0.shape c.args.starts.now c.args.order.now c.requires.2 c.requires.3)
+    laid_none c.requires.0.shape c.args.starts.now c.args.order.now (omega arith) (omega arith)
 
 pub lay_node-requires : goal.lay_node-requires
-lay_node-requires c = (c.requires.0, c.loop-j-test.true, c.requires.1, c.loop-j.invariant.1)
-
-pub overflow_add-j : goal.overflow_add-j
-overflow_add-j c = omega (arith, c.loop-j-test.true, c.requires.0.nodes_few)
-
-pub loop-j-smaller : goal.loop-j-smaller
-loop-j-smaller c = omega (arith, c.loop-j-test.true)
+lay_node-requires c = (c.requires.0, c.loop-j-test.true, c.requires.1, c.loop-j.invariant)
 
 pub loop-j-preserved : goal.loop-j-preserved
-loop-j-preserved c = (omega (arith, c.loop-j-test.true), c.lay_node.ensures)
+loop-j-preserved c = c.lay_node.ensures
 
 pub returns : goal.returns
 returns c =
     let l = c.loop-j in
     let tree : Tree = tree_by c.args.nodes.now c.args.links.now c.args.k c.args.m in
-    let all : l.j ≡ length tree = omega (arith, l.invariant.0, c.loop-j-test.false, size_is c.requires.0) in
-    laid_out c.requires.0.shape (subst (λ (x : ℕ). LaidTo tree x l.starts l.order) all l.invariant.1) c.requires.1 c.requires.0.few
+    let all : l.j ≡ length tree = omega (arith, size_is c.requires.0) in
+    laid_out c.requires.0.shape (subst (λ (x : ℕ). LaidTo tree x l.starts l.order) all l.invariant) c.requires.1 c.requires.0.few

@@ -1,11 +1,7 @@
 -- `checking::order::lay_out` meets its contract: node after node is laid (`Laying`).
-use Prim.Native.Nat.{◌-◌, ◌≤◌}
 use Rattle.tables.specs.Nodes.{tree_by}
 use Rattle.checking.specs.Laid.{LaidTo}
 use Rattle.checking.proofs.order.lay_out.Given as goal
 
 abbrev pub invariant-loop-j : goal.invariant-loop-j
-invariant-loop-j l = (l.j ≤ l.m) × LaidTo (tree_by l.nodes l.links l.k l.m) l.j l.starts l.order
-
-abbrev pub decreases-loop-j : goal.decreases-loop-j
-decreases-loop-j l = l.m - l.j
+invariant-loop-j l = LaidTo (tree_by l.nodes l.links l.k l.m) l.j l.starts l.order

@@ -20,7 +20,7 @@ loop-t-init c =
     let a = c.args in
     let met : met_from a.links.now a.k a.head ≡ numbers_of a.links.now a.k a.head =
     met_start a.links.now a.k a.head c.requires.0 in
-    (omega (arith, c.requires.0), c.requires.4, rw met (put_none a.order.now a.at (numbers_of a.links.now a.k a.head)))
+    (omega (arith, c.requires.0), omega arith, rw met (put_none a.order.now a.at (numbers_of a.links.now a.k a.head)))
 
 pub overflow_cast-order : goal.overflow_cast-order
 overflow_cast-order c = omega (arith, c.requires.1)
@@ -30,7 +30,7 @@ offset_bounds-order-place c = omega (
   arith,
   (putting c.args.order.now c.loop-t.order c.args.at c.args.links.now c.args.k c.args.head c.loop-t.place c.loop-t.t c.requires.3 c.loop-t-test.true
       c.loop-t.invariant.2).to,
-  c.requires.5,
+  c.requires.4,
 )
 
 pub bounds-order-place : goal.bounds-order-place
@@ -38,7 +38,7 @@ bounds-order-place c = omega (
   arith,
   (putting c.args.order.now c.loop-t.order c.args.at c.args.links.now c.args.k c.args.head c.loop-t.place c.loop-t.t c.requires.3 c.loop-t-test.true
       c.loop-t.invariant.2).to,
-  c.requires.5,
+  c.requires.4,
 )
 
 pub overflow_add-place : goal.overflow_add-place
@@ -46,7 +46,7 @@ overflow_add-place c = omega (
   arith,
   (putting c.args.order.now c.loop-t.order c.args.at c.args.links.now c.args.k c.args.head c.loop-t.place c.loop-t.t c.requires.3 c.loop-t-test.true
       c.loop-t.invariant.2).to,
-  c.requires.5,
+  c.requires.4,
 )
 
 pub behind-t-requires : goal.behind-t-requires
@@ -64,7 +64,7 @@ loop-t-preserved c =
       length-set l.order l.place l.t ∙ l.invariant.1,
       subst (λ (t : ℕ). Putting a.order.now (set l.order l.place l.t) a.at (numbers_of a.links.now a.k a.head)
           (l.place + 1) (met_from a.links.now a.k t))
-          (sym c.behind-t.ensures) (put_more p (omega (arith, p.to, c.requires.5, l.invariant.1))),
+          (sym c.behind-t.ensures) (put_more p (omega (arith, p.to, c.requires.4, l.invariant.1))),
     )
 
 pub returns : goal.returns

@@ -1,11 +1,7 @@
 -- `checking::sizes::fill_sizes` meets its contract: from the last node down, each has its size.
-use Prim.Native.Nat.{◌≤◌}
 use Rattle.tables.specs.Nodes.{tree_by}
 use Rattle.checking.specs.Laid.{SizesLaid}
 use Rattle.checking.proofs.sizes.fill_sizes.Given as goal
 
 abbrev pub invariant-loop-j : goal.invariant-loop-j
-invariant-loop-j l = (l.j ≤ l.m) × SizesLaid (tree_by l.nodes l.links l.k l.m) l.sizes l.j
-
-abbrev pub decreases-loop-j : goal.decreases-loop-j
-decreases-loop-j l = l.j
+invariant-loop-j l = SizesLaid (tree_by l.nodes l.links l.k l.m) l.sizes l.j

@@ -36,8 +36,8 @@ total {nodes} {links} {k} {m} w j h inner sizes s e g =
       size_of _ _ g (right_above w j h inner).0 (right_above w j h inner).1,
     )
 
-pub node_small-kind-requires : goal.node_small-kind-requires
-node_small-kind-requires c = let h = in_table c.requires.0 c.args.j c.requires.1 in (h.0, h.1, omega arith)
+pub is_leaf-requires : goal.is_leaf-requires
+is_leaf-requires c = in_table c.requires.0 c.args.j c.requires.1
 
 pub node_small-first-requires : goal.node_small-first-requires
 node_small-first-requires c = let h = in_table c.requires.0 c.args.j c.requires.1 in (h.0, h.1, omega arith)
@@ -45,45 +45,45 @@ node_small-first-requires c = let h = in_table c.requires.0 c.args.j c.requires.
 pub list_size-requires : goal.list_size-requires
 list_size-requires c =
     let w = c.requires.0 in
-    (rw c.node_small-first.ensures (first_stored w c.args.j c.requires.1 (sym c.node_small-kind.ensures ∙ c.if-kind-eq0.true)), w.few, w.links_room, w.rising)
+    (rw c.node_small-first.ensures (first_stored w c.args.j c.requires.1 c.if-is_leaf.ensures), w.few, w.links_room, w.rising)
 
-pub returns-then-kind-eq0 : goal.returns-then-kind-eq0
-returns-then-kind-eq0 c =
+pub returns-then-is_leaf : goal.returns-then-is_leaf
+returns-then-is_leaf c =
     c.list_size.ensures.value
     ∙ (ap (λ (x : ℕ). length (numbers_of c.args.links.now c.args.k x)) c.node_small-first.ensures
-    ∙ ap length (sym (leaf_below c.requires.0 c.args.j c.requires.1 (sym c.node_small-kind.ensures ∙ c.if-kind-eq0.true))))
+    ∙ ap length (sym (leaf_below c.requires.0 c.args.j c.requires.1 c.if-is_leaf.ensures)))
 
 pub node_small-right-requires : goal.node_small-right-requires
 node_small-right-requires c = let h = in_table c.requires.0 c.args.j c.requires.1 in (h.0, h.1, omega arith)
 
 pub offset_bounds-sizes-first : goal.offset_bounds-sizes-first
 offset_bounds-sizes-first c =
-    let inner : 1 ≤ small_at (record_of c.args.nodes.now c.args.j) kind_place = omega (arith, c.if-kind-eq0.false, c.node_small-kind.ensures) in
+    let inner = c.if-is_leaf.ensures in
     omega (arith, c.node_small-first.ensures, (left_above c.requires.0 c.args.j c.requires.1 inner).1, c.requires.0.nodes_few)
 
 pub bounds-sizes-first : goal.bounds-sizes-first
 bounds-sizes-first c =
-    let inner : 1 ≤ small_at (record_of c.args.nodes.now c.args.j) kind_place = omega (arith, c.if-kind-eq0.false, c.node_small-kind.ensures) in
+    let inner = c.if-is_leaf.ensures in
     omega (arith, c.node_small-first.ensures, (left_above c.requires.0 c.args.j c.requires.1 inner).1, c.requires.0.nodes_few, c.requires.2.places)
 
 pub offset_bounds-sizes-right : goal.offset_bounds-sizes-right
 offset_bounds-sizes-right c =
-    let inner : 1 ≤ small_at (record_of c.args.nodes.now c.args.j) kind_place = omega (arith, c.if-kind-eq0.false, c.node_small-kind.ensures) in
+    let inner = c.if-is_leaf.ensures in
     omega (arith, c.node_small-right.ensures, (right_above c.requires.0 c.args.j c.requires.1 inner).1, c.requires.0.nodes_few)
 
 pub bounds-sizes-right : goal.bounds-sizes-right
 bounds-sizes-right c =
-    let inner : 1 ≤ small_at (record_of c.args.nodes.now c.args.j) kind_place = omega (arith, c.if-kind-eq0.false, c.node_small-kind.ensures) in
+    let inner = c.if-is_leaf.ensures in
     omega (arith, c.node_small-right.ensures, (right_above c.requires.0 c.args.j c.requires.1 inner).1, c.requires.0.nodes_few, c.requires.2.places)
 
 pub overflow_add-result : goal.overflow_add-result
 overflow_add-result c =
-    let inner : 1 ≤ small_at (record_of c.args.nodes.now c.args.j) kind_place = omega (arith, c.if-kind-eq0.false, c.node_small-kind.ensures) in
+    let inner = c.if-is_leaf.ensures in
     let both = total c.requires.0 c.args.j c.requires.1 inner c.args.sizes.now c.requires.2 c.node_small-first.ensures c.node_small-right.ensures in
-    omega (arith, c.wide.ensures, c.wide-2.ensures, both, few_below c.requires.0.shape c.args.j, c.requires.0.few)
+    omega (arith, c.from.ensures, c.from-2.ensures, both, few_below c.requires.0.shape c.args.j, c.requires.0.few)
 
 pub returns : goal.returns
 returns c =
-    let inner : 1 ≤ small_at (record_of c.args.nodes.now c.args.j) kind_place = omega (arith, c.if-kind-eq0.false, c.node_small-kind.ensures) in
+    let inner = c.if-is_leaf.ensures in
     let both = total c.requires.0 c.args.j c.requires.1 inner c.args.sizes.now c.requires.2 c.node_small-first.ensures c.node_small-right.ensures in
-    omega (arith, c.wide.ensures, c.wide-2.ensures, both)
+    omega (arith, c.from.ensures, c.from-2.ensures, both)

@@ -26,7 +26,7 @@ module _ (c : goal.Then-highs-i) where
   step : is_crossed s.args.lows.now s.args.highs.now
       ≡ (lt_z (get_or s.args.highs.now i (pos 0)) (get_or s.args.lows.now i (pos 0))
       || is_crossed (drop (suc i) s.args.lows.now) (drop (suc i) s.args.highs.now))
-  step = turn.loop-i.invariant.1 ∙ crossed_next i s.args.lows.now s.args.highs.now turn.loop-i-test.true s.requires
+  step = turn.loop-i.invariant ∙ crossed_next i s.args.lows.now s.args.highs.now turn.loop-i-test.true s.requires
 
 -- a turn: what is still to come, and what the test compares
 module _ (c : goal.Else-highs-i) where
@@ -42,10 +42,10 @@ module _ (c : goal.Else-highs-i) where
   step_2 : is_crossed s_2.args.lows.now s_2.args.highs.now
       ≡ (lt_z (get_or s_2.args.highs.now i_2 (pos 0)) (get_or s_2.args.lows.now i_2 (pos 0))
       || is_crossed (drop (suc i_2) s_2.args.lows.now) (drop (suc i_2) s_2.args.highs.now))
-  step_2 = turn_2.loop-i.invariant.1 ∙ crossed_next i_2 s_2.args.lows.now s_2.args.highs.now turn_2.loop-i-test.true s_2.requires
+  step_2 = turn_2.loop-i.invariant ∙ crossed_next i_2 s_2.args.lows.now s_2.args.highs.now turn_2.loop-i-test.true s_2.requires
 
 pub loop-i-init : goal.loop-i-init
-loop-i-init c = (omega arith, refl)
+loop-i-init c = refl
 
 pub offset_bounds-highs-i : goal.offset_bounds-highs-i
 offset_bounds-highs-i c = omega (arith, c.loop-i-test.true)
@@ -61,24 +61,18 @@ bounds-lows-i c = omega (arith, c.loop-i-test.true)
 
 pub returns-then-highs-i : goal.returns-then-highs-i
 returns-then-highs-i c =
-    let taken = rw (read_plain (s c).args.highs.now (i c) c.t7-1.given, read_plain (s c).args.lows.now (i c) c.t10-1.given)
+    let taken = rw (read_plain (s c).args.highs.now (i c) c.t8-1.given, read_plain (s c).args.lows.now (i c) c.t11-1.given)
     at c.if-highs-i.true in
     sym (step c ∙ rw taken)
 
-pub overflow_add-i : goal.overflow_add-i
-overflow_add-i c = omega (arith, (turn_2 c).loop-i-test.true)
-
-pub loop-i-smaller : goal.loop-i-smaller
-loop-i-smaller c = omega (arith, (turn_2 c).loop-i-test.true)
-
 pub loop-i-preserved : goal.loop-i-preserved
 loop-i-preserved c =
-    let left = rw (read_plain (s_2 c).args.highs.now (i_2 c) c.t7-1.given, read_plain (s_2 c).args.lows.now (i_2 c) c.t10-1.given)
+    let left = rw (read_plain (s_2 c).args.highs.now (i_2 c) c.t8-1.given, read_plain (s_2 c).args.lows.now (i_2 c) c.t11-1.given)
     at c.if-highs-i.false in
-    (omega (arith, (turn_2 c).loop-i-test.true), step_2 c ∙ rw (left, add-one))
+    step_2 c ∙ rw (left, add-one)
 
 pub returns : goal.returns
 returns c =
     let l = c.loop-i in
     let a = c.args in
-    sym (l.invariant.1 ∙ crossed_none l.i a.lows.now a.highs.now c.loop-i-test.false)
+    sym (l.invariant ∙ crossed_none l.i a.lows.now a.highs.now (omega arith))

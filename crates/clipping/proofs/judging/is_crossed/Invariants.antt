@@ -1,12 +1,8 @@
 -- `clipping::judging::is_crossed` meets its contract: those from a place on are crossed exactly if all are (`Crossed`).
 use mathlib.Core.Path.{◌≡◌}
-use Prim.Native.Nat.{◌-◌, ◌≤◌}
-use lib.ListN.{length, drop}
+use lib.ListN.{drop}
 use Rattle.segment.specs.Clipped.{is_crossed}
 use Rattle.clipping.proofs.judging.is_crossed.Given as goal
 
 abbrev pub invariant-loop-i : goal.invariant-loop-i
-invariant-loop-i l = (l.i ≤ length l.lows) × (is_crossed l.lows l.highs ≡ is_crossed (drop l.i l.lows) (drop l.i l.highs))
-
-abbrev pub decreases-loop-i : goal.decreases-loop-i
-decreases-loop-i l = length l.lows - l.i
+invariant-loop-i l = is_crossed l.lows l.highs ≡ is_crossed (drop l.i l.lows) (drop l.i l.highs)

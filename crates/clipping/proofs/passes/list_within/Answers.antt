@@ -41,12 +41,6 @@ note-out-requires c =
       omega (arith, L.invariant.few, c.loop-t-test.true, p.few),
     )
 
-pub overflow_add-t : goal.overflow_add-t
-overflow_add-t c = omega (arith, c.loop-t-test.true, c.requires.0.few)
-
-pub loop-t-smaller : goal.loop-t-smaller
-loop-t-smaller c = omega (arith, c.loop-t-test.true)
-
 pub loop-t-preserved : goal.loop-t-preserved
 loop-t-preserved c =
     let r = c.note-out in
@@ -63,4 +57,4 @@ pub returns : goal.returns
 returns c =
     let L = c.loop-t in
     let a = c.args in let r = writing_end (is_within a.samples.now a.n a.lows.now a.highs.now a.limit) a.count a.list.now L.list L.out
-    L.t L.invariant (omega (arith, c.loop-t-test.false)) in record { value = r.0; list = r.1 }
+    L.t L.invariant (omega arith) in record { value = r.0; list = r.1 }

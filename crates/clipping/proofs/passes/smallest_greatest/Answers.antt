@@ -37,7 +37,7 @@ module _ (c : goal.After-greatest_within-smallest) where
 pub loop-t-init : goal.loop-t-init
 loop-t-init c =
     let a = c.args in
-    (omega arith, sym (smallest_none a.samples.now a.n a.lows.now a.highs.now))
+    sym (smallest_none a.samples.now a.n a.lows.now a.highs.now)
 
 pub trace_at-requires : goal.trace_at-requires
 trace_at-requires c = room c
@@ -50,30 +50,22 @@ greatest_within-smallest-requires c =
     words_length a.samples.now c.trace_at.result.now a.n c.loop-t.t c.trace_at.ensures (room_2 c) in
     (f.low_size ∙ sym long, f.high_size ∙ sym long, omega (arith, long, f.narrow), f.lows_within, f.highs_within)
 
-pub overflow_add-t : goal.overflow_add-t
-overflow_add-t c = omega (arith, c.loop-t-test.true, c.ranges.count)
-
-pub loop-t-smaller : goal.loop-t-smaller
-loop-t-smaller c = omega (arith, c.loop-t-test.true)
-
 pub loop-t-preserved : goal.loop-t-preserved
 loop-t-preserved c =
     let L = c.loop-t in
     let a = (s_3 c).args in
     let found = c.greatest_within-smallest.ensures
-    ∙ ap (λ (x : Trace). min L.smallest (greatest_from a.lows.now a.highs.now x)) c.trace_at.ensures in (
-      omega (arith, c.loop-t-test.true),
-      found
-          ∙ ap (λ (k : ℕ). min k (greatest_from a.lows.now a.highs.now (trace_in a.samples.now a.n L.t))) L.invariant.1
-          ∙ sym (smallest_more a.samples.now a.n a.lows.now a.highs.now L.t),
-    )
+    ∙ ap (λ (x : Trace). min L.smallest (greatest_from a.lows.now a.highs.now x)) c.trace_at.ensures in
+    found
+    ∙ ap (λ (k : ℕ). min k (greatest_from a.lows.now a.highs.now (trace_in a.samples.now a.n L.t))) L.invariant
+    ∙ sym (smallest_more a.samples.now a.n a.lows.now a.highs.now L.t)
 
 pub returns : goal.returns
 returns c =
     let L = c.loop-t in
     let a = c.args in
-    let all : L.t ≡ a.count = omega (arith, L.invariant.0, c.loop-t-test.false) in
-    L.invariant.1 ∙ ap (smallest_to a.samples.now a.n a.lows.now a.highs.now) all
+    let all : L.t ≡ a.count = omega arith in
+    L.invariant ∙ ap (smallest_to a.samples.now a.n a.lows.now a.highs.now) all
     ∙ smallest_all a.samples.now a.n a.lows.now a.highs.now a.count c.requires.1
     (not_reached a.samples.now a.n a.lows.now a.highs.now c.requires.0.figures 0
     (trace_room _ a.n a.count 0 c.requires.0.room c.requires.1))

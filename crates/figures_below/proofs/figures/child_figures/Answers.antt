@@ -35,28 +35,28 @@ few {samples} {nodes} {n} {sizes} {starts} {order} {c} p e = rw e (omega (arith,
 pub record_at-record-requires : goal.record_at-record-requires
 record_at-record-requires c = in_table c.requires.0
 
-pub segment_on-i-requires : goal.segment_on-i-requires
-segment_on-i-requires c = (places c.requires.0 c.record_at-record.ensures, few c.requires.0 c.record_at-record.ensures)
+pub segment_on-requires : goal.segment_on-requires
+segment_on-requires c = (places c.requires.0 c.record_at-record.ensures, few c.requires.0 c.record_at-record.ensures)
 
 pub recorded-requires : goal.recorded-requires
-recorded-requires c = (places c.requires.0 c.record_at-record.ensures, c.if-i-lt16.true)
+recorded-requires c = (places c.requires.0 c.record_at-record.ensures, omega (arith, c.in-Some.ensures, few c.requires.0 c.record_at-record.ensures))
 
-pub returns-then-i-lt16 : goal.returns-then-i-lt16
-returns-then-i-lt16 c =
+pub returns-in-Some : goal.returns-in-Some
+returns-in-Some c =
     let a = c.args in
     let r = c.record_at-record.result.now in
-    let i = c.segment_on-i.result in
-    let on = c.segment_on-i.ensures in
+    let i = c.in-Some.i in
+    let on = c.in-Some.ensures in
     let f = c.recorded.result in
     let traces = traces_under a.samples.now a.n a.sizes.now a.starts.now a.order.now a.c in
     let exact : T (are_exact traces 1 (segments_in r)) = subst (λ (x : List ℤ). T (are_exact traces 1 (segments_in x))) (sym c.record_at-record.ensures) c.requires.2 in
     let base : segment_by (segment_in r i).end f ≡ segment_of traces (run (first_on r i) (segment_in r i).end) =
-    c.recorded.ensures ∙ segment_is traces r i exact (on.inside c.if-i-lt16.true) in
-    subst (λ (x : ℕ). segment_by a.last f ≡ segment_of traces (run x a.last)) (on.first c.if-i-lt16.true)
-    (subst (λ (x : ℕ). segment_by x f ≡ segment_of traces (run (first_on r i) x)) (on.last c.if-i-lt16.true) base)
+    c.recorded.ensures ∙ segment_is traces r i exact on.0 in
+    subst (λ (x : ℕ). segment_by a.last f ≡ segment_of traces (run x a.last)) on.1
+    (subst (λ (x : ℕ). segment_by x f ≡ segment_of traces (run (first_on r i) x)) on.2 base)
 
 pub figures_below-requires : goal.figures_below-requires
 figures_below-requires c = (c.requires.0, c.requires.1)
 
-pub returns : goal.returns
-returns c = c.figures_below.ensures
+pub returns-in-None : goal.returns-in-None
+returns-in-None c = c.figures_below.ensures

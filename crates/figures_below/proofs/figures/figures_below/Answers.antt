@@ -30,23 +30,23 @@ pub bounds-sizes-j : goal.bounds-sizes-j
 bounds-sizes-j c = omega (arith, c.requires.0.inside, c.requires.0.ready.nodes_few, c.requires.0.ready.sizes_places)
 
 pub overflow_add-to : goal.overflow_add-to
-overflow_add-to c = omega (arith, c.wide-from.ensures, c.wide.ensures, c.requires.0.ready.inside c.args.j c.requires.0.inside)
+overflow_add-to c = omega (arith, c.from-from.ensures, c.from.ensures, c.requires.0.ready.inside c.args.j c.requires.0.inside)
 
 pub offset_bounds-order-from : goal.offset_bounds-order-from
-offset_bounds-order-from c = omega (arith, c.wide-from.ensures, c.wide.ensures, c.requires.0.ready.inside c.args.j c.requires.0.inside)
+offset_bounds-order-from c = omega (arith, c.from-from.ensures, c.from.ensures, c.requires.0.ready.inside c.args.j c.requires.0.inside)
 
 pub slice_bounds-listed_figures-count : goal.slice_bounds-listed_figures-count
-slice_bounds-listed_figures-count c = omega (arith, c.wide-from.ensures, c.wide.ensures, c.requires.0.ready.inside c.args.j c.requires.0.inside)
+slice_bounds-listed_figures-count c = omega (arith, c.from-from.ensures, c.from.ensures, c.requires.0.ready.inside c.args.j c.requires.0.inside)
 
 pub slice_bounds-listed_figures-start : goal.slice_bounds-listed_figures-start
-slice_bounds-listed_figures-start c = omega (arith, c.wide-from.ensures, c.wide.ensures, c.requires.0.ready.inside c.args.j c.requires.0.inside)
+slice_bounds-listed_figures-start c = omega (arith, c.from-from.ensures, c.from.ensures, c.requires.0.ready.inside c.args.j c.requires.0.inside)
 
 pub slice_bounds-listed_figures-end : goal.slice_bounds-listed_figures-end
-slice_bounds-listed_figures-end c = omega (arith, c.wide-from.ensures, c.wide.ensures, c.requires.0.ready.inside c.args.j c.requires.0.inside, c.requires.0.ready.order_places)
+slice_bounds-listed_figures-end c = omega (arith, c.from-from.ensures, c.from.ensures, c.requires.0.ready.inside c.args.j c.requires.0.inside, c.requires.0.ready.order_places)
 
 pub listed_figures-requires : goal.listed_figures-requires
 listed_figures-requires c =
-    rw (part_is c.args.sizes.now c.args.starts.now c.args.order.now c.args.j c.wide-from.ensures c.wide.ensures) (
+    rw (part_is c.args.sizes.now c.args.starts.now c.args.order.now c.args.j c.from-from.ensures c.from.ensures) (
       c.requires.0.ready.narrow,
       c.requires.1,
       simp length-take (omega (arith, c.requires.0.ready.inside c.args.j c.requires.0.inside)),
@@ -58,4 +58,4 @@ pub returns : goal.returns
 returns c =
     let a = c.args in
     c.listed_figures.ensures
-    ∙ ap (λ (l : List ℕ). segment_of (traces_at a.samples.now a.n l) (run a.first a.last)) (part_is c.args.sizes.now c.args.starts.now c.args.order.now c.args.j c.wide-from.ensures c.wide.ensures)
+    ∙ ap (λ (l : List ℕ). segment_of (traces_at a.samples.now a.n l) (run a.first a.last)) (part_is c.args.sizes.now c.args.starts.now c.args.order.now c.args.j c.from-from.ensures c.from.ensures)

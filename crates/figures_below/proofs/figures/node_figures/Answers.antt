@@ -43,14 +43,14 @@ module _ {samples nodes : List ℤ} {n : ℕ} {sizes starts order : List ℕ} {j
       traces_of : List ℕ → List Trace
       traces_of l = map (trace_in samples n) l
 
-pub node_small-kind-requires : goal.node_small-kind-requires
-node_small-kind-requires c = let h = in_table c.requires.0 in (h.0, h.1, omega arith)
+pub is_leaf-requires : goal.is_leaf-requires
+is_leaf-requires c = in_table c.requires.0
 
 pub figures_below-requires : goal.figures_below-requires
 figures_below-requires c = (record { m = c.requires.0.m; ready = c.requires.0.ready; inside = c.requires.0.inside }, c.requires.1)
 
-pub returns-then-kind-eq0 : goal.returns-then-kind-eq0
-returns-then-kind-eq0 c = c.figures_below.ensures
+pub returns-then-is_leaf : goal.returns-then-is_leaf
+returns-then-is_leaf c = c.figures_below.ensures
 
 pub node_small-left-requires : goal.node_small-left-requires
 node_small-left-requires c = let h = in_table c.requires.0 in (h.0, h.1, omega arith)
@@ -61,7 +61,7 @@ node_small-right-requires c = let h = in_table c.requires.0 in (h.0, h.1, omega 
 pub child_figures-a-requires : goal.child_figures-a-requires
 child_figures-a-requires c =
     let q = c.requires.0 in
-    let inner : 1 ≤ small_at (record_of c.args.nodes.now c.args.j) kind_place = omega (arith, c.if-kind-eq0.false, c.node_small-kind.ensures) in
+    let inner = c.if-is_leaf.ensures in
     let i = left_in q inner in
     rw c.node_small-left.ensures (
       record { m = q.m; ready = q.ready; inside = i.1 },
@@ -72,7 +72,7 @@ child_figures-a-requires c =
 pub child_figures-b-requires : goal.child_figures-b-requires
 child_figures-b-requires c =
     let q = c.requires.0 in
-    let inner : 1 ≤ small_at (record_of c.args.nodes.now c.args.j) kind_place = omega (arith, c.if-kind-eq0.false, c.node_small-kind.ensures) in
+    let inner = c.if-is_leaf.ensures in
     let i = right_in q inner in
     rw c.node_small-right.ensures (
       record { m = q.m; ready = q.ready; inside = i.1 },
@@ -85,7 +85,7 @@ returns c =
     let a = c.args in
     let r = record_of a.nodes.now a.j in
     let q = c.requires.0 in
-    let inner : 1 ≤ small_at r kind_place = omega (arith, c.if-kind-eq0.false, c.node_small-kind.ensures) in
+    let inner = c.if-is_leaf.ensures in
     let on = run a.first a.last in
     let under = traces_under a.samples.now a.n a.sizes.now a.starts.now a.order.now in
     let left = small_at r first_place in

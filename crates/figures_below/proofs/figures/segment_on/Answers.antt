@@ -28,27 +28,17 @@ small_at-end-requires c = (c.requires.0, omega (arith, c.loop-i.invariant.1))
 
 pub returns-then-end-last : goal.returns-then-end-last
 returns-then-end-last c =
-    let l = c.loop-i in record {
-      inside = (λ h. omega (arith, c.loop-i-test.true, l.invariant.0));
-      first = (λ h. sym l.invariant.2 ∙ c.if-from-first.true);
-      last =
-          (λ h. sym (c.small_at-end.ensures ∙ sym (end_at c.args.«record».now c.loop-i.i)) ∙ c.if-end-last.true);
-    }
+    let l = c.loop-i in (
+      omega (arith, c.loop-i-test.true, l.invariant.0),
+      sym l.invariant.2 ∙ c.if-from-first.true,
+      sym (c.small_at-end.ensures ∙ sym (end_at c.args.«record».now c.loop-i.i)) ∙ c.if-end-last.true,
+    )
 
 pub overflow_add-from : goal.overflow_add-from
 overflow_add-from c = omega (arith, c.small_at-end.ensures, small_most (value_at c.args.«record».now (segment_at c.loop-i.i)))
-
-pub overflow_add-i-in-loop-i : goal.overflow_add-i-in-loop-i
-overflow_add-i-in-loop-i c = omega (arith, c.loop-i.invariant.1)
-
-pub loop-i-smaller : goal.loop-i-smaller
-loop-i-smaller c = omega (arith, c.loop-i-test.true)
 
 pub loop-i-preserved : goal.loop-i-preserved
 unfolding first_on
 loop-i-preserved c =
     let l = c.loop-i in
     (l.invariant.0, l.invariant.1, rw (add-one l.i) (add-one c.small_at-end.result ∙ ap suc (c.small_at-end.ensures ∙ sym (end_at c.args.«record».now c.loop-i.i))))
-
-pub returns : goal.returns
-returns c = record { inside = (λ h. absurd (omega arith)); first = (λ h. absurd (omega arith)); last = (λ h. absurd (omega arith)) }

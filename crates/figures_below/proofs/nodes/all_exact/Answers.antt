@@ -19,26 +19,23 @@ and_above test j m some t above i h g = by (same_or_not i (j - 1))
     by (no f) = above i (omega (arith, strict h (λ e. f (sym e)))) g
 
 pub loop-j-init : goal.loop-j-init
-loop-j-init c = (omega arith, λ i h g. absurd (omega arith))
+loop-j-init c = λ i h g. absurd (omega arith)
 
-pub overflow_sub-j : goal.overflow_sub-j
-overflow_sub-j c = omega (arith, c.loop-j-test.true)
-
-pub node_exact-exact-requires : goal.node_exact-exact-requires
-node_exact-exact-requires c = record {
+pub node_exact-requires : goal.node_exact-requires
+node_exact-requires c = record {
   m = c.args.m;
   ready = c.requires;
-  inside = omega (arith, c.loop-j.invariant.0, c.loop-j-test.true);
-  above = λ i h g. c.loop-j.invariant.1 i (omega (arith, c.loop-j-test.true)) g;
+  inside = omega (arith, c.loop-j-test.true);
+  above = λ i h g. c.loop-j.invariant i (omega (arith, c.loop-j-test.true)) g;
 }
 
-pub returns-then-not-exact : goal.returns-then-not-exact
-returns-then-not-exact c =
+pub returns-then-not-node_exact : goal.returns-then-not-node_exact
+returns-then-not-node_exact c =
     let a = c.args in
     let test = exact_in a.samples.now a.nodes.now a.n a.sizes.now a.starts.now a.order.now in
     sym (test_false (every test (counting a.m 0))
-    (λ t. subst T (sym c.node_exact-exact.ensures ∙ c.if-not-exact.true)
-    (from_every test (counting a.m 0) t (in_counting a.m 0 (c.loop-j.j - 1) (omega arith) (omega (arith, c.loop-j.invariant.0, c.loop-j-test.true))))))
+    (λ t. subst T (sym c.node_exact.ensures ∙ c.if-not-node_exact.true)
+    (from_every test (counting a.m 0) t (in_counting a.m 0 (c.loop-j.j - 1) (omega arith) (omega (arith, c.loop-j-test.true))))))
 
 pub loop-j-smaller : goal.loop-j-smaller
 loop-j-smaller c = omega (arith, c.loop-j-test.true)
@@ -46,10 +43,8 @@ loop-j-smaller c = omega (arith, c.loop-j-test.true)
 pub loop-j-preserved : goal.loop-j-preserved
 loop-j-preserved c =
     let a = c.args in
-    let test = exact_in a.samples.now a.nodes.now a.n a.sizes.now a.starts.now a.order.now in (
-      omega (arith, c.loop-j.invariant.0, c.loop-j-test.true),
-      and_above test c.loop-j.j a.m c.loop-j-test.true (is_true (sym c.node_exact-exact.ensures ∙ c.if-not-exact.false)) c.loop-j.invariant.1,
-    )
+    let test = exact_in a.samples.now a.nodes.now a.n a.sizes.now a.starts.now a.order.now in
+    and_above test c.loop-j.j a.m c.loop-j-test.true (is_true (sym c.node_exact.ensures ∙ c.if-not-node_exact.false)) c.loop-j.invariant
 
 pub returns : goal.returns
 returns c =
@@ -57,4 +52,4 @@ returns c =
     let l = c.loop-j in
     let test = exact_in a.samples.now a.nodes.now a.n a.sizes.now a.starts.now a.order.now in
     sym (test_true (every test (counting a.m 0))
-    (every_of test (counting a.m 0) (λ i h. l.invariant.1 i (omega (arith, c.loop-j-test.false)) (omega (arith, from_counting a.m 0 h)))))
+    (every_of test (counting a.m 0) (λ i h. l.invariant i (omega arith) (omega (arith, from_counting a.m 0 h)))))

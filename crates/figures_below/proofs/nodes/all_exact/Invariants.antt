@@ -5,8 +5,4 @@ use Rattle.figures_below.specs.Compared.{exact_in}
 use Rattle.figures_below.proofs.nodes.all_exact.Given as goal
 
 abbrev pub invariant-loop-j : goal.invariant-loop-j
-invariant-loop-j l = (l.j ≤ l.m) ×
-    ((c : ℕ) → l.j ≤ c → c < l.m → T (exact_in l.samples l.nodes l.n l.sizes l.starts l.order c))
-
-abbrev pub decreases-loop-j : goal.decreases-loop-j
-decreases-loop-j l = l.j
+invariant-loop-j l = (c : ℕ) → l.j ≤ c → c < l.m → T (exact_in l.samples l.nodes l.n l.sizes l.starts l.order c)

@@ -5,6 +5,7 @@ use mathlib.Core.Bool.{Bool, ◌&&◌}
 use mathlib.Core.List.{List}
 use Prim.Native.Nat.{ℕ, ◌+◌, ◌*◌, ◌≤◌, ◌<◌}
 use native.Mathlib.Omega.{arith}
+use borrow.Author.Tests.{not-true, not-false}
 use lib.IntN.{ℤ}
 use lib.ListN.{length}
 use Rattle.dstree.specs.Figures.{run}
@@ -22,6 +23,7 @@ use Rattle.leaf_figures.specs.Sides.{segment_by}
 use Rattle.figures_below.specs.Compared.{traces_under, exact_in, AboveExact}
 use Rattle.leaf_figures.specs.declared.sides.SideRange.{SideRange}
 use Rattle.figures_below.proofs.Segments.{left_from, all_left, none_left, next_end, test_more}
+use Rattle.figures_below.proofs.Steps.{same_by}
 use Rattle.figures_below.proofs.nodes.node_exact.Goals as goal
 
 -- the record, and how many segments it has
@@ -71,7 +73,6 @@ loop-i-init c =
     let traces = traces_under a.samples.now a.n a.sizes.now a.starts.now a.order.now a.j in
     let whole = all a.nodes.now a.j c.record_at-record.ensures c.small_at-count.ensures in (
       omega arith,
-      omega arith,
       ap (are_exact traces 1) whole,
       subst (λ (l : List Segment). Rises a.n 1 (ends l)) (sym whole) (parted_rises (c.requires.ready.fits a.j c.requires.inside).parted),
     )
@@ -89,34 +90,29 @@ small_at-last-requires c =
 pub node_figures-figures-requires : goal.node_figures-figures-requires
 node_figures-figures-requires c =
     let n = next_end (record_of c.args.nodes.now c.args.j) c.args.n c.small_at-count.result c.loop-i.first c.loop-i.i c.small_at-last.result
-    c.loop-i-test.true (end_is c.loop-i.i c.record_at-record.ensures c.small_at-last.ensures) c.loop-i.invariant.3 in
-    (c.requires, record { from_1 = c.loop-i.invariant.1; rises = n.rises; to_n = n.to_n })
+    c.loop-i-test.true (end_is c.loop-i.i c.record_at-record.ensures c.small_at-last.ensures) c.loop-i.invariant.2 in
+    (c.requires, record { from_1 = c.loop-i.invariant.0; rises = n.rises; to_n = n.to_n })
 
 pub recorded-requires : goal.recorded-requires
 recorded-requires c =
     (places c.requires c.record_at-record.ensures, omega (arith, c.loop-i-test.true, few c.requires c.small_at-count.ensures c.record_at-record.ensures))
 
-pub returns-then-not-same : goal.returns-then-not-same
-returns-then-not-same c =
+pub returns-then-ne : goal.returns-then-ne
+returns-then-ne c =
     let a = c.args in
     let rest = are_exact (traces_under a.samples.now a.n a.sizes.now a.starts.now a.order.now a.j) (c.small_at-last.result + 1)
     (left_from (record_of a.nodes.now a.j) c.small_at-count.result (c.loop-i.i + 1)) in
     sym (test_is a.samples.now a.nodes.now a.n a.sizes.now a.starts.now a.order.now a.j c.small_at-count.result c.loop-i.first c.loop-i.i c.small_at-last.result c.recorded.result
     c.node_figures-figures.result c.record_at-record.ensures
-    c.loop-i-test.true (end_is c.loop-i.i c.record_at-record.ensures c.small_at-last.ensures) c.loop-i.invariant.2 c.recorded.ensures c.node_figures-figures.ensures c.same_figures-same.ensures
-    ∙ ap (λ (b : Bool). b && rest) c.if-not-same.true)
+    c.loop-i-test.true (end_is c.loop-i.i c.record_at-record.ensures c.small_at-last.ensures) c.loop-i.invariant.1
+    c.recorded.ensures c.node_figures-figures.ensures (λ e d. same_by e d c.recorded.result c.node_figures-figures.result)
+    ∙ ap (λ (b : Bool). b && rest) (not-true _ (sym c.ne.ensures ∙ c.if-ne.true)))
 
 pub overflow_add-first : goal.overflow_add-first
 overflow_add-first c =
     let n = next_end (record_of c.args.nodes.now c.args.j) c.args.n c.small_at-count.result c.loop-i.first c.loop-i.i c.small_at-last.result
-    c.loop-i-test.true (end_is c.loop-i.i c.record_at-record.ensures c.small_at-last.ensures) c.loop-i.invariant.3 in
+    c.loop-i-test.true (end_is c.loop-i.i c.record_at-record.ensures c.small_at-last.ensures) c.loop-i.invariant.2 in
     omega (arith, n.to_n, c.requires.ready.narrow)
-
-pub overflow_add-i-in-loop-i : goal.overflow_add-i-in-loop-i
-overflow_add-i-in-loop-i c = omega (arith, c.loop-i-test.true, few c.requires c.small_at-count.ensures c.record_at-record.ensures)
-
-pub loop-i-smaller : goal.loop-i-smaller
-loop-i-smaller c = omega (arith, c.loop-i-test.true)
 
 pub loop-i-preserved : goal.loop-i-preserved
 loop-i-preserved c =
@@ -124,13 +120,13 @@ loop-i-preserved c =
     let rest = are_exact (traces_under a.samples.now a.n a.sizes.now a.starts.now a.order.now a.j) (c.small_at-last.result + 1)
     (left_from (record_of a.nodes.now a.j) c.small_at-count.result (c.loop-i.i + 1)) in
     let n = next_end (record_of c.args.nodes.now c.args.j) c.args.n c.small_at-count.result c.loop-i.first c.loop-i.i c.small_at-last.result
-    c.loop-i-test.true (end_is c.loop-i.i c.record_at-record.ensures c.small_at-last.ensures) c.loop-i.invariant.3 in (
-      omega (arith, c.loop-i-test.true),
+    c.loop-i-test.true (end_is c.loop-i.i c.record_at-record.ensures c.small_at-last.ensures) c.loop-i.invariant.2 in (
       omega arith,
       sym (test_is a.samples.now a.nodes.now a.n a.sizes.now a.starts.now a.order.now a.j c.small_at-count.result c.loop-i.first c.loop-i.i c.small_at-last.result c.recorded.result
           c.node_figures-figures.result c.record_at-record.ensures
-          c.loop-i-test.true (end_is c.loop-i.i c.record_at-record.ensures c.small_at-last.ensures) c.loop-i.invariant.2 c.recorded.ensures c.node_figures-figures.ensures c.same_figures-same.ensures
-          ∙ ap (λ (b : Bool). b && rest) c.if-not-same.false),
+          c.loop-i-test.true (end_is c.loop-i.i c.record_at-record.ensures c.small_at-last.ensures) c.loop-i.invariant.1
+          c.recorded.ensures c.node_figures-figures.ensures (λ e d. same_by e d c.recorded.result c.node_figures-figures.result)
+          ∙ ap (λ (b : Bool). b && rest) (not-false _ (sym c.ne.ensures ∙ c.if-ne.false))),
       n.on,
     )
 
@@ -140,4 +136,4 @@ returns c =
     let a = c.args in
     let l = c.loop-i in
     sym (ap (are_exact (traces_under a.samples.now a.n a.sizes.now a.starts.now a.order.now a.j) l.first) (none_left (record_of a.nodes.now a.j) c.small_at-count.result l.i c.loop-i-test.false))
-    ∙ l.invariant.2
+    ∙ l.invariant.1

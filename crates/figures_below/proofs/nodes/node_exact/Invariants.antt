@@ -1,7 +1,7 @@
 -- `figures_below::nodes::node_exact` meets its contract: the segments passed are exact, and the test of those that are left is the test of
 -- all.
 use mathlib.Core.Path.{◌≡◌}
-use Prim.Native.Nat.{◌-◌, ◌≤◌}
+use Prim.Native.Nat.{◌≤◌}
 use Rattle.dstree.specs.Node.{ends}
 use Rattle.dstree.specs.Formed.{Rises}
 use Rattle.dstree.specs.Checking.{are_exact}
@@ -12,11 +12,7 @@ use Rattle.figures_below.proofs.nodes.node_exact.Given as goal
 
 abbrev pub invariant-loop-i : goal.invariant-loop-i
 invariant-loop-i l =
-    (l.i ≤ l.count)
-    × (1 ≤ l.first)
+    (1 ≤ l.first)
     × (are_exact (traces_under l.samples l.n l.sizes l.starts l.order l.j) l.first (left_from (record_of l.nodes l.j) l.count l.i)
     ≡ exact_in l.samples l.nodes l.n l.sizes l.starts l.order l.j)
     × Rises l.n l.first (ends (left_from (record_of l.nodes l.j) l.count l.i))
-
-abbrev pub decreases-loop-i : goal.decreases-loop-i
-decreases-loop-i l = l.count - l.i

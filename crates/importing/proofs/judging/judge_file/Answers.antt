@@ -31,8 +31,8 @@ module _ (j : goal.Then-capacity-k) where
   n_is : j.wide-n.result ≡ (measures_of t).n
   n_is = j.wide-n.ensures ∙ j.field.ensures
 
-  found : traces_found j.judge_recording-found.result ≡ traces_recorded file
-  found = j.judge_recording-found.ensures ∙ ap (λ (k : ℕ). traces_recorded (judge_recording k start.args.bytes.now)) n_is
+  found : traces_found j.judge_recording.result ≡ traces_recorded file
+  found = j.judge_recording.ensures ∙ ap (λ (k : ℕ). traces_recorded (judge_recording k start.args.bytes.now)) n_is
 
 -- .. so many traces
 module _ (k : goal.Then-capacity-k) where
@@ -42,8 +42,8 @@ module _ (k : goal.Then-capacity-k) where
   fits : trace_count (t judged) ≤ (measures_of (t judged)).capacity
   fits = (start judged).requires.1
 
-module _ (j : goal.In-Bad) where
-  abbrev start_2 : goal.In-Bad
+module _ (j : goal.In-None) where
+  abbrev start_2 : goal.In-None
   start_2 = j
 
   abbrev t_2 : Tables
@@ -55,8 +55,8 @@ module _ (j : goal.In-Bad) where
   n_is_2 : j.wide-n.result ≡ (measures_of t_2).n
   n_is_2 = j.wide-n.ensures ∙ j.field.ensures
 
-  found_2 : traces_found j.judge_recording-found.result ≡ traces_recorded file_2
-  found_2 = j.judge_recording-found.ensures ∙ ap (λ (k : ℕ). traces_recorded (judge_recording k start_2.args.bytes.now)) n_is_2
+  found_2 : traces_found j.judge_recording.result ≡ traces_recorded file_2
+  found_2 = j.judge_recording.ensures ∙ ap (λ (k : ℕ). traces_recorded (judge_recording k start_2.args.bytes.now)) n_is_2
 
 module _ (j : goal.Else-capacity-k) where
   abbrev start_3 : goal.Else-capacity-k
@@ -77,8 +77,8 @@ module _ (j : goal.Else-capacity-k) where
   n_is_3 : j.wide-n.result ≡ (measures_of t_3).n
   n_is_3 = j.wide-n.ensures ∙ j.field.ensures
 
-  found_3 : traces_found j.judge_recording-found.result ≡ traces_recorded file_3
-  found_3 = j.judge_recording-found.ensures ∙ ap (λ (k : ℕ). traces_recorded (judge_recording k start_3.args.bytes.now)) n_is_3
+  found_3 : traces_found j.judge_recording.result ≡ traces_recorded file_3
+  found_3 = j.judge_recording.ensures ∙ ap (λ (k : ℕ). traces_recorded (judge_recording k start_3.args.bytes.now)) n_is_3
 
 -- .. so many traces
 module _ (k : goal.Else-capacity-k) where
@@ -92,17 +92,17 @@ pub returns-then-capacity-k : goal.returns-then-capacity-k
 unfolding answer_by word_of traces_found
 returns-then-capacity-k c =
     let j = judged c in
-    full_answer (measures_of (t j)) (trace_count (t j)) (fits c) _ (file j) (sym (ap traces_found c.in-Traces.is) ∙ found j)
+    full_answer (measures_of (t j)) (trace_count (t j)) (fits c) _ (file j) (sym (ap traces_found c.in-Some.is) ∙ found j)
     (omega (arith, c.if-capacity-k.true, capacity_is j, k_is j))
 
-pub returns-in-Bad : goal.returns-in-Bad
+pub returns-in-None : goal.returns-in-None
 unfolding answer_by word_of traces_found
-returns-in-Bad c =
-    bad_answer (measures_of (t_2 c)) (trace_count (t_2 c)) (file_2 c) (sym (ap traces_found c.in-Bad.is) ∙ found_2 c)
+returns-in-None c =
+    bad_answer (measures_of (t_2 c)) (trace_count (t_2 c)) (file_2 c) (sym (ap traces_found c.in-None.is) ∙ found_2 c)
 
 pub returns-else-capacity-k : goal.returns-else-capacity-k
 unfolding answer_by traces_found
 returns-else-capacity-k c =
     let j = judged_2 c in
-    count_answer (measures_of (t_3 j)) (trace_count (t_3 j)) (fits_2 c) _ (file_3 j) (sym (ap traces_found c.in-Traces.is) ∙ found_3 j)
+    count_answer (measures_of (t_3 j)) (trace_count (t_3 j)) (fits_2 c) _ (file_3 j) (sym (ap traces_found c.in-Some.is) ∙ found_3 j)
     (omega (arith, c.if-capacity-k.false, capacity_is_3 j, k_is_3 j))

@@ -37,8 +37,8 @@ returns c =
     let r = c.args.«record».now in
     let words = c.args.trace.now in
     let x = samples_of words in
-    let zero = c.zero_nodes in
-    let zeros : zero.new.nodes ≡ filled record_places (pos 0) r = zero.ensures in
+    let zero = c.fill_first in
+    let zeros : zero.new.table ≡ filled record_places (pos 0) r = zero.ensures in
     let headed : c.write_leaf_head.new.record ≡ leaf_head 1 0 ++ drop head_places (filled record_places (pos 0) r) =
     c.write_leaf_head.ensures ∙ ap (λ (l : List ℤ). leaf_head 1 0 ++ drop head_places l) zeros in
     let z : read w64 f.sum ≡ sum x =

@@ -6,6 +6,6 @@ pub returns-then-by_scatter : goal.returns-then-by_scatter
 unfolding inner_kind
 returns-then-by_scatter c = rw c.if-by_scatter.true
 
-pub returns : goal.returns
+pub returns-else-by_scatter : goal.returns-else-by_scatter
 unfolding inner_kind
-returns c = rw c.if-by_scatter.false
+returns-else-by_scatter c = rw c.if-by_scatter.false

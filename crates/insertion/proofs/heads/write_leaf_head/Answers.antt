@@ -10,9 +10,6 @@ slice_set_of-record-3 c = simp length-set (omega arith)
 pub slice_set_of-record-4 : goal.slice_set_of-record-4
 slice_set_of-record-4 c = simp length-set (omega arith)
 
-pub slice_set_of-record-5 : goal.slice_set_of-record-5
-slice_set_of-record-5 c = simp length-set (omega arith)
-
 pub returns : goal.returns
 returns c =
     let a = c.args in

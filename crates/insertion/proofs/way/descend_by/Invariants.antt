@@ -5,8 +5,8 @@ use Rattle.segment.specs.Stored.{samples_of}
 use Rattle.insertion.proofs.Down.{GoingDown}
 use Rattle.insertion.proofs.way.descend_by.Given as goal
 
-abbrev pub invariant-loop-count : goal.invariant-loop-count
-invariant-loop-count l = GoingDown l.initial.nodes l.count (samples_of l.trace) l.nodes l.at
+abbrev pub invariant-loop-child : goal.invariant-loop-child
+invariant-loop-child l = GoingDown l.initial.nodes l.count (samples_of l.trace.trace.now) l.nodes l.at
 
-abbrev pub decreases-loop-count : goal.decreases-loop-count
-decreases-loop-count l = l.count - l.at
+abbrev pub decreases-loop-child : goal.decreases-loop-child
+decreases-loop-child l = l.count - l.at

@@ -35,74 +35,72 @@ module _ (x : Trace) (old l : List ℤ) (i n : ℕ) (p : Readable old n) (inside
   end_is = ap (λ (r : List ℤ). end_in r i) e ∙ end_later x old i room
 
 pub small_at-count-requires : goal.small_at-count-requires
-small_at-count-requires c = (c.requires.1.size, omega arith)
+small_at-count-requires c = (c.requires.size, omega arith)
 
 pub loop-i-init : goal.loop-i-init
-loop-i-init c = (omega arith, refl, sym (partly_none (samples_of c.args.trace.now) c.args.«record».now))
+loop-i-init c = (refl, sym (partly_none (samples_of c.args.trace.now.trace.now) c.args.«record».now))
 
 pub small_at-end-requires : goal.small_at-end-requires
 small_at-end-requires c =
     let a = c.args in
     let l = c.loop-i in
-    let x = samples_of a.trace.now in
+    let x = samples_of a.trace.now.trace.now in
     let old = a.«record».now in
     let inside : l.i < small_at old segments_place = omega (arith, c.small_at-count.ensures) in
-    (long x old l.«record» l.i (length a.trace.now) c.requires.1 inside l.invariant.2, omega arith)
+    (long x old l.«record» l.i (length a.trace.now.trace.now) c.requires inside l.invariant.1, omega arith)
 
 pub widen_segment-requires : goal.widen_segment-requires
 widen_segment-requires c =
     let a = c.args in
     let l = c.loop-i in
-    let x = samples_of a.trace.now in
+    let x = samples_of a.trace.now.trace.now in
     let old = a.«record».now in
     let inside : l.i < small_at old segments_place = omega (arith, c.small_at-count.ensures) in
-    let few = c.requires.1.few in
-    record {
-      prefixes = c.requires.0;
-      readable = (
-        long x old l.«record» l.i (length a.trace.now) c.requires.1 inside l.invariant.2,
-        omega (arith, inside),
-        rw (l.invariant.2, l.invariant.1) (readable_later x old l.i (room x old l.«record» l.i (length a.trace.now) c.requires.1 inside l.invariant.2) (start_in old l.i) (length a.trace.now)
-            (c.requires.1.segment l.i inside)),
-      );
-    }
+    let few = c.requires.few in
+    let n = length a.trace.now.trace.now in (
+      long x old l.«record» l.i n c.requires inside l.invariant.1,
+      omega (arith, inside),
+      rw (l.invariant.1, l.invariant.0)
+          (readable_later x old l.i (room x old l.«record» l.i n c.requires inside l.invariant.1) (start_in old l.i) n (c.requires.segment l.i inside)),
+    )
 
 pub overflow_add-first : goal.overflow_add-first
 overflow_add-first c =
     let a = c.args in
     let l = c.loop-i in
-    let x = samples_of a.trace.now in
+    let x = samples_of a.trace.now.trace.now in
     let old = a.«record».now in
     let inside : l.i < small_at old segments_place = omega (arith, c.small_at-count.ensures) in
     let e : c.small_at-end.result ≡ end_in l.«record» l.i = c.small_at-end.ensures in
-    omega (arith, e ∙ end_is x old l.«record» l.i (length a.trace.now) c.requires.1 inside l.invariant.2, (c.requires.1.segment l.i inside).on.to_n, c.requires.0.few, samples_length a.trace.now)
+    let end = e ∙ end_is x old l.«record» l.i (length a.trace.now.trace.now) c.requires inside l.invariant.1 in
+    omega (arith, end, (c.requires.segment l.i inside).on.to_n, a.trace.now.summed.few, samples_length a.trace.now.trace.now)
 
 pub loop-i-preserved : goal.loop-i-preserved
 loop-i-preserved c =
     let a = c.args in
     let l = c.loop-i in
-    let x = samples_of a.trace.now in
+    let x = samples_of a.trace.now.trace.now in
     let old = a.«record».now in
     let inside : l.i < small_at old segments_place = omega (arith, c.small_at-count.ensures) in
     let e : c.small_at-end.result ≡ end_in l.«record» l.i = c.small_at-end.ensures in
     let first : c.small_at-end.result + 1 ≡ start_in old (l.i + 1) =
-    add-one c.small_at-end.result ∙ (ap suc (e ∙ end_is x old l.«record» l.i (length a.trace.now) c.requires.1 inside l.invariant.2) ∙ ap (start_in old) (sym (add-one l.i))) in
+    add-one c.small_at-end.result ∙ (ap suc (e ∙ end_is x old l.«record» l.i (length a.trace.now.trace.now) c.requires inside l.invariant.1) ∙ ap (start_in old) (sym (add-one l.i))) in
     let after : c.widen_segment.new.record ≡ with_segment l.«record» l.i (widen_segment x (run l.first (end_in l.«record» l.i)) (segment_in l.«record» l.i)) =
     c.widen_segment.ensures in
     let more : c.widen_segment.new.record ≡ partly x old (l.i + 1) =
-    after ∙ (next_partly x old l.«record» l.i l.first (room x old l.«record» l.i (length a.trace.now) c.requires.1 inside l.invariant.2) l.invariant.1 l.invariant.2 ∙ ap (partly x old)
+    after ∙ (next_partly x old l.«record» l.i l.first (room x old l.«record» l.i (length a.trace.now.trace.now) c.requires inside l.invariant.1) l.invariant.0 l.invariant.1 ∙ ap (partly x old)
     (sym (add-one l.i))) in
-    (omega arith, first, more)
+    (first, more)
 
 pub shape_of-record : goal.shape_of-record
 shape_of-record c =
     let l = c.loop-i in
     let e : c.small_at-count.result ≡ small_at c.args.«record».now segments_place = c.small_at-count.ensures in
-    ap length l.invariant.2 ∙ partly_length (samples_of c.args.trace.now) c.args.«record».now l.i (omega (arith, c.requires.1.few, c.requires.1.size))
+    ap length l.invariant.1 ∙ partly_length (samples_of c.args.trace.now.trace.now) c.args.«record».now l.i (omega (arith, c.requires.few, c.requires.size))
 
 pub returns : goal.returns
 returns c =
     let l = c.loop-i in
     let e : c.small_at-count.result ≡ small_at c.args.«record».now segments_place = c.small_at-count.ensures in
     let all : l.i ≡ small_at c.args.«record».now segments_place = omega arith in
-    l.invariant.2 ∙ (ap (partly (samples_of c.args.trace.now) c.args.«record».now) all ∙ partly_all (samples_of c.args.trace.now) c.args.«record».now)
+    l.invariant.1 ∙ (ap (partly (samples_of c.args.trace.now.trace.now) c.args.«record».now) all ∙ partly_all (samples_of c.args.trace.now.trace.now) c.args.«record».now)

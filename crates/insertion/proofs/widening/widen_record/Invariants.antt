@@ -1,14 +1,10 @@
 -- `insertion::widening::widen_record` meets its contract: after i turns the first i segments are widened, and the rest of the record is as
--- it was (`Widened`), so that the next segment is still readable. The measure is how many are left.
+-- it was (`Widened`), so that the next segment is still readable.
 use mathlib.Core.Path.{◌≡◌}
-use Prim.Native.Nat.{◌-◌, ◌≤◌}
 use Rattle.segment.specs.Stored.{samples_of}
 use Rattle.insertion.specs.Widening.{start_in}
 use Rattle.insertion.proofs.Widened.{partly}
 use Rattle.insertion.proofs.widening.widen_record.Given as goal
 
 abbrev pub invariant-loop-i : goal.invariant-loop-i
-invariant-loop-i l = (l.i ≤ l.count) × (l.first ≡ start_in l.initial.record l.i) × (l.«record» ≡ partly (samples_of l.trace) l.initial.record l.i)
-
-abbrev pub decreases-loop-i : goal.decreases-loop-i
-decreases-loop-i l = l.count - l.i
+invariant-loop-i l = (l.first ≡ start_in l.initial.record l.i) × (l.«record» ≡ partly (samples_of l.trace.trace.now) l.initial.record l.i)

@@ -19,20 +19,20 @@ use Rattle.insertion.proofs.widening.widen_segment.Goals as goal
 
 pub overflow_cast-scatter : goal.overflow_cast-scatter
 overflow_cast-scatter c =
-    let inside = c.requires.readable.2.on in
+    let inside = c.requires.2.on in
     let narrow : width (run c.args.first c.small_at-end.result) ≤ most_samples =
-    omega (arith, c.small_at-end.ensures, inside.from_1, inside.to_n, c.requires.prefixes.few, samples_length c.args.trace.now) in
+    omega (arith, c.small_at-end.ensures, inside.from_1, inside.to_n, c.args.trace.now.summed.few, samples_length c.args.trace.now.trace.now) in
     small (omega (arith, scatter_most_lem narrow c.figures_on-f.ensures.size.1))
 
 -- a narrow run has figures with a sign's room
 pub returns : goal.returns
 returns c =
-    let inside = c.requires.readable.2.on in
+    let inside = c.requires.2.on in
     let narrow : width (run c.args.first c.small_at-end.result) ≤ most_samples =
-    omega (arith, c.small_at-end.ensures, inside.from_1, inside.to_n, c.requires.prefixes.few, samples_length c.args.trace.now) in
+    omega (arith, c.small_at-end.ensures, inside.from_1, inside.to_n, c.args.trace.now.summed.few, samples_length c.args.trace.now.trace.now) in
     let a = c.args in
     let r = a.«record».now in
-    let x = samples_of a.trace.now in
+    let x = samples_of a.trace.now.trace.now in
     let p : ℕ = 7 + a.i * 5 in
     let end : c.small_at-end.result ≡ end_in r a.i = c.small_at-end.ensures in
     let g = c.figures_on-f.result in
@@ -45,5 +45,5 @@ returns c =
     let sums : c.widen_range.new.record ≡ range_with r (p + 1) (sum_on (run a.first (end_in r a.i)) x) =
     c.widen_range.ensures ∙ ap (range_with r (p + 1)) sum in
     c.widen_range-2.ensures
-    ∙ (rw (sums, scatter) (widened_stored r a.i a.first _ (omega (arith, c.requires.prefixes.few, samples_length c.args.trace.now)) c.requires.readable.0 c.requires.readable.1 c.requires.readable.2
+    ∙ (rw (sums, scatter) (widened_stored r a.i a.first _ (omega (arith, c.args.trace.now.summed.few, samples_length c.args.trace.now.trace.now)) c.requires.0 c.requires.1 c.requires.2
     x))

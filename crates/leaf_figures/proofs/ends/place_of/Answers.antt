@@ -18,9 +18,6 @@ returns-then-middle-at c =
     let here = place_here c.args.e.at c.args.e.count (omega (arith, c.requires.places, c.requires.few)) c.args.middle l.i c.loop-i-test.true c.if-middle-at.true in record
     { value = omega (arith, l.invariant.1, here); inside = omega arith }
 
-pub overflow_add-i : goal.overflow_add-i
-overflow_add-i c = omega (arith, c.requires.few)
-
 pub loop-i-preserved : goal.loop-i-preserved
 loop-i-preserved c =
     let l = c.loop-i in
@@ -31,4 +28,4 @@ pub returns : goal.returns
 returns c =
     let l = c.loop-i in
     let rest = place_end c.args.e.at c.args.e.count (omega (arith, c.requires.places, c.requires.few)) c.args.middle l.i c.loop-i-test.false in record
-    { value = omega (arith, l.invariant.1, rest); inside = l.invariant.0 }
+    { value = omega (arith, l.invariant.1, rest); inside = omega arith }

@@ -41,9 +41,6 @@ offset_bounds-at-i c = omega (arith, c.requires.1)
 pub bounds-at-i : goal.bounds-at-i
 bounds-at-i c = omega (arith, c.requires.1)
 
-pub overflow_add-i : goal.overflow_add-i
-overflow_add-i c = omega (arith, c.requires.1)
-
 pub loop-i-preserved : goal.loop-i-preserved
 loop-i-preserved c =
     let from = c.args.e.at in

@@ -1,75 +1,54 @@
--- `leaf_figures::sameness::all_same` meets its contract: all traces so far are the first one.
-use mathlib.Core.Path.{◌≡◌, sym, ap, subst, ◌∙◌}
+-- `leaf_figures::sameness::all_same` meets its contract: the traces met are all the first one.
+use Rattle.std.specs.Bool.{Decides}
+use Rattle.std.specs.Cmp.Rules.{signed_items}
+use Rattle.std.specs.Cmp.Lexicographic.{pointwise}
+use Rattle.std.specs.Ordering.{int_eq}
 use mathlib.Core.Bool.{Bool, true, false, not}
 use mathlib.Core.List.{List}
 use lib.IntN.{ℤ}
+use mathlib.Core.Path.{◌≡◌, refl, sym, ap, subst, ◌∙◌}
 use Prim.Native.Nat.{ℕ, ◌+◌, ◌*◌, ◌≤◌, ◌<◌}
 use native.Mathlib.Omega.{arith}
-use lib.ListN.{length, get_or, take}
-use lib.Dec.{T}
-use Rattle.integer.proofs.Lists.{In, in_nil}
-use Rattle.leaf_figures.specs.Rows.{TracesListed}
+use lib.ListN.{length, get_or}
+use Rattle.std.proofs.lemmas.List.{take_all}
+use Rattle.integer.proofs.Lists.{In, in_get_or}
 use Rattle.segment.specs.Stored.{samples_of}
-use Rattle.tables.specs.View.{trace_in}
-use Rattle.tables.proofs.Parts.{words_length}
-use Rattle.leaf_figures.proofs.Listing.{in_listed, all_taken_more}
+use Rattle.leaf_figures.specs.Rows.{trace_of}
+use Rattle.leaf_figures.specs.declared.listed.Listed.{Listed}
+use Rattle.leaf_figures.proofs.Listing.{all_taken_more}
 use Rattle.leaf_figures.proofs.sameness.all_same.Goals as goal
 
--- no is not yes
-no_yes : false ≡ true → ⊥
-no_yes e = subst (λ (b : Bool). T (not b)) e tt
-
 -- a listed trace lies in the table whole
-room : {samples : List ℤ} {n : ℕ} {list : List ℕ} {count : ℕ} (i : ℕ) {t : ℕ} → TracesListed samples n list count → i < count → t ≡ get_or list i 0 → t * n + n ≤ length samples
-room {samples} {n} {list} {count} i {t} l h e = l.inside t (subst (λ (x : ℕ). In x (take count list)) (sym e) (in_listed list count i h (omega (arith, l.places, l.few))))
+room : (l : Listed) (i : ℕ) {t : ℕ} → i < length l.list.now → t ≡ get_or l.list.now i 0 → t * l.n + l.n ≤ length l.samples.now
+room l i {t} h e = l.inside.inside t (subst (λ (x : ℕ). In x l.list.now) (sym e) (in_get_or l.list.now i 0 h))
 
-pub returns-then-count-lt2 : goal.returns-then-count-lt2
-returns-then-count-lt2 c = λ e. absurd (no_yes e)
+-- traces that do not differ are the same
+same_words : (xs ys : List ℤ) → not (pointwise int_eq xs ys) ≡ false → xs ≡ ys
+same_words xs ys e = by (pointwise int_eq xs ys) (signed_items xs ys) e
+  where
+    by : (b : Bool) → Decides b (xs ≡ ys) → not b ≡ false → xs ≡ ys
+    by true d f = d.0 refl
+    by false d f = absurd (cc f)
 
 pub trace_at-first-requires : goal.trace_at-first-requires
-trace_at-first-requires c = room 0 c.requires (omega (arith, c.if-count-lt2.false)) c.wide-head.ensures
-
-pub loop-i-init : goal.loop-i-init
-loop-i-init c = (omega arith, λ t i. absurd (in_nil i))
-
-pub offset_bounds-list-i : goal.offset_bounds-list-i
-offset_bounds-list-i c = omega (arith, c.requires.few)
-
-pub bounds-list-i : goal.bounds-list-i
-bounds-list-i c = omega (arith, c.requires.few)
+trace_at-first-requires c = room c.args.traces 0 (omega (arith, c.if-list-lt2.false)) c.from.ensures
 
 pub trace_at-other-requires : goal.trace_at-other-requires
-trace_at-other-requires c = room c.loop-i.i c.requires c.loop-i-test.true c.wide-t.ensures
+trace_at-other-requires c = room c.args.traces c.loop-number.number-index c.loop-number-test.true c.from-in-loop-number.ensures
 
-pub same_trace-same-requires : goal.same_trace-same-requires
-same_trace-same-requires c =
-    let a = c.args in
-    let first : length c.trace_at-first.result.now ≡ a.n = words_length a.samples.now c.trace_at-first.result.now a.n c.wide-head.result c.trace_at-first.ensures
-    (room 0 c.requires (omega (arith, c.if-count-lt2.false)) c.wide-head.ensures) in
-    let other : length c.trace_at-other.result.now ≡ a.n = words_length a.samples.now c.trace_at-other.result.now a.n c.wide-t.result c.trace_at-other.ensures
-    (room c.loop-i.i c.requires c.loop-i-test.true c.wide-t.ensures) in
-    (first ∙ sym other, omega (arith, first, c.requires.narrow))
-
-pub returns-then-not-same : goal.returns-then-not-same
-returns-then-not-same c = λ e. absurd (no_yes e)
-
-pub overflow_add-i : goal.overflow_add-i
-overflow_add-i c = omega (arith, c.requires.few)
-
-pub loop-i-preserved : goal.loop-i-preserved
-loop-i-preserved c =
-    let a = c.args in
-    let l = c.loop-i in
-    let list = a.list.now in
-    let trace = trace_in a.samples.now a.n in
-    let equal = c.same_trace-same.ensures c.if-not-same.false in
-    let here : trace (get_or list l.i 0) ≡ trace (get_or list 0 0) =
-    sym (ap trace c.wide-t.ensures) ∙ (sym c.trace_at-other.ensures ∙ (ap samples_of (sym equal) ∙ (c.trace_at-first.ensures ∙ ap trace c.wide-head.ensures))) in
-    (omega arith, all_taken_more list (λ (u : ℕ). trace u ≡ trace (get_or list 0 0)) l.i (omega (arith, c.requires.places, c.requires.few, c.loop-i-test.true)) l.invariant.1 here)
+pub loop-number-preserved : goal.loop-number-preserved
+loop-number-preserved c =
+    let l = c.args.traces in
+    let list = l.list.now in
+    let i = c.loop-number.number-index in
+    let first = c.trace_at-first.result.now in
+    let other = c.trace_at-other.result.now in
+    let equal : other ≡ first = same_words other first (sym c.ne.ensures ∙ c.if-ne.false) in
+    let here : trace_of l (get_or list i 0) ≡ trace_of l (get_or list 0 0) =
+    sym (ap (trace_of l) c.from-in-loop-number.ensures) ∙ (sym c.trace_at-other.ensures ∙ (ap samples_of equal ∙ (c.trace_at-first.ensures ∙ ap (trace_of l) c.from.ensures))) in
+    all_taken_more list (λ (u : ℕ). trace_of l u ≡ trace_of l (get_or list 0 0)) i c.loop-number-test.true c.loop-number.invariant here
 
 pub returns : goal.returns
-returns c = λ e.
-    let l = c.loop-i in
-    let all : l.i ≡ c.args.count = omega (arith, c.loop-i-test.false, l.invariant.0) in
-    subst (λ (m : ℕ). (t : ℕ) → In t (take m c.args.list.now) → trace_in c.args.samples.now c.args.n t ≡ trace_in c.args.samples.now c.args.n (get_or c.args.list.now 0 0))
-    all l.invariant.1
+returns c = λ e t m.
+    let list = c.args.traces.list.now in
+    c.loop-number.invariant t (subst (In t) (sym (take_all c.loop-number.number-index list c.loop-number-test.false)) m)

@@ -7,19 +7,19 @@ use Rattle.integer.proofs.Width.{of_mag, read}
 use Rattle.leaf_figures.specs.Sides.{with_figures}
 use Rattle.leaf_figures.proofs.sides.widened.Goals as goal
 
-pub returns-then-f : goal.returns-then-f
+pub returns-in-Some : goal.returns-in-Some
 unfolding with_figures
-returns-then-f c =
-    let low = c.lesser in
-    let high = c.greater in
-    let f = c.args.f in
-    let least = to_z-of_z {w = w64} {z = f.least_sum} (of_mag {w = w64} f.least_sum c.struct_told-1.given.1.0.1) in
-    let greatest = to_z-of_z {w = w64} {z = f.greatest_sum} (of_mag {w = w64} f.greatest_sum c.struct_told-then-f-1.given.1.1.0.1) in
+returns-in-Some c =
+    let low = c.min in
+    let high = c.max in
+    let f = c.in-Some.f in
+    let least = to_z-of_z {w = w64} {z = f.least_sum} (of_mag {w = w64} f.least_sum c.struct_told-1.given.0.1) in
+    let greatest = to_z-of_z {w = w64} {z = f.greatest_sum} (of_mag {w = w64} f.greatest_sum c.struct_told-in-Some-1.given.1.0.1) in
     let sum = to_z-of_z {w = w64} c.ranges.sum in
-    let e : read w64 low.result ≡ lesser f.least_sum c.args.sum = to_z-of_z (of_mag {w = w64} low.result low.type_inv) ∙ (low.ensures ∙ ap₂ lesser least sum) in
-    let g : read w64 high.result ≡ greater f.greatest_sum c.args.sum = to_z-of_z (of_mag {w = w64} high.result high.type_inv) ∙ (high.ensures ∙ ap₂ greater greatest sum) in
-    rw (e, g, c.smaller.ensures, c.larger.ensures, c.if-f.true)
+    let e : read w64 low.result ≡ lesser f.least_sum c.args.sum = to_z-of_z (of_mag {w = w64} low.result low.type_inv) ∙ (low.ensures.value ∙ ap₂ lesser least sum) in
+    let g : read w64 high.result ≡ greater f.greatest_sum c.args.sum = to_z-of_z (of_mag {w = w64} high.result high.type_inv) ∙ (high.ensures.value ∙ ap₂ greater greatest sum) in
+    rw (e, g, c.min-in-Some.ensures, c.max-in-Some.ensures, c.in-Some.is)
 
-pub returns-else-f : goal.returns-else-f
+pub returns-in-None : goal.returns-in-None
 unfolding with_figures
-returns-else-f c = rw (to_z-of_z c.ranges.sum, c.if-f.false)
+returns-in-None c = rw (to_z-of_z c.ranges.sum, c.in-None.is)

@@ -1,4 +1,5 @@
 -- `leaf_figures::sides::with_trace` meets its contract: the figures that it adds are those of the trace, which are small.
+use Rattle.std.specs.Prelude.{Some}
 use mathlib.Core.Path.{◌≡◌, refl, sym, ap, ap₂, subst, ◌∙◌}
 use native.Mathlib.Omega.{arith}
 use mir.Syntax.{w64}
@@ -10,23 +11,23 @@ use Rattle.leaf_figures.specs.Sides.{with_figures, SmallFigures}
 use Rattle.leaf_figures.proofs.Taken.{with_small}
 use Rattle.leaf_figures.proofs.sides.with_trace.Goals as goal
 
-pub figures_on-own-requires : goal.figures_on-own-requires
-figures_on-own-requires c = run_of_words c.trace_at-trace.result.now c.trace_at-trace.ensures c.requires.0
+pub returns-then-not-on_side : goal.returns-then-not-on_side
+returns-then-not-on_side c = record { value = rw c.if-not-on_side.true refl; small = c.requires.1 }
 
-pub returns-then-on_side : goal.returns-then-on_side
-returns-then-on_side c =
+pub figures_on-own-requires : goal.figures_on-own-requires
+figures_on-own-requires c = run_of_words c.trace_at.result.now c.trace_at.ensures c.requires.0
+
+pub returns : goal.returns
+returns c =
     let own = c.figures_on-own in
     let r = own.result in
-    let f = c.args.f in
-    let on = run c.args.first c.args.last in
+    let f = c.args.so_far in
+    let on = run c.args.on.first c.args.on.last in
     let back = to_z-of_z (small {w = w64} {z = r.sum} (omega (arith, own.ensures.sum.1))) in
     let e : c.widened.result ≡ with_figures f r.sum r.scatter = c.widened.ensures ∙ ap₂ (with_figures f) back refl in
     let small = with_small f r.sum r.scatter c.requires.1 own.ensures.sum.1 own.ensures.scatter.1 in
     record {
-      value = rw c.if-on_side.true
-          (e ∙ ap₂ (with_figures f) (own.ensures.sum.0 ∙ ap (sum_on on) c.trace_at-trace.ensures) (own.ensures.scatter.0 ∙ ap (scatter_on on) c.trace_at-trace.ensures));
+      value = rw c.if-not-on_side.false
+          (ap Some (e ∙ ap₂ (with_figures f) (own.ensures.sum.0 ∙ ap (sum_on on) c.trace_at.ensures) (own.ensures.scatter.0 ∙ ap (scatter_on on) c.trace_at.ensures)));
       small = subst SmallFigures (sym e) small;
     }
-
-pub returns-else-on_side : goal.returns-else-on_side
-returns-else-on_side c = record { value = rw c.if-on_side.false refl; small = c.requires.1 }

@@ -2,10 +2,10 @@
 use Rattle.leaf_order.specs.Handed.{is_past}
 use Rattle.leaf_order.proofs.keys.is_past.Goals as goal
 
-pub returns-then-not-limited : goal.returns-then-not-limited
+pub returns-in-Some : goal.returns-in-Some
 unfolding is_past
-returns-then-not-limited c = rw c.if-not-limited.true
+returns-in-Some c = rw c.in-Some.is
 
-pub returns : goal.returns
+pub returns-in-None : goal.returns-in-None
 unfolding is_past
-returns c = rw c.if-not-limited.false
+returns-in-None c = rw c.in-None.is

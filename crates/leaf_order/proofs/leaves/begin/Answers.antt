@@ -1,6 +1,5 @@
 -- `leaf_order::leaves::begin` meets its contract: node 0's key stands for all leaves (`Turns`).
-use mathlib.Core.Path.{◌∙◌, sym}
-use native.Mathlib.Nat.{not-suc-le-zero}
+use mathlib.Core.Path.{◌≡◌, ◌∙◌, sym}
 use native.Mathlib.Omega.{arith}
 use lib.ListN.{length}
 use Rattle.segment.specs.Stored.{samples_of}
@@ -14,21 +13,29 @@ use Rattle.leaf_order.proofs.leaves.begin.Goals as goal
 
 pub node_key-root-requires : goal.node_key-root-requires
 node_key-root-requires c =
-    let h = some_node c.args.nodes.now (length c.args.work.now) (samples_of c.args.query.now) c.requires.0 in
-    let bounded = bounded_words c.args.nodes.now (length c.args.work.now) c.args.query.now c.requires.0 0 h in
-    (c.requires.0.record_room 0 h, omega arith, omega arith, c.requires.1, bounded)
+    let m = length c.args.heap.now.keys.now in
+    let h = some_node c.args.nodes.now m (samples_of c.args.query.now.trace.now) c.requires.0 in
+    let bounded = bounded_words c.args.nodes.now m c.args.query.now.trace.now c.requires.0 0 h in
+    (c.requires.0.record_room 0 h, omega arith, omega arith, bounded)
 
 pub push-requires : goal.push-requires
 push-requires c =
-    let h = some_node c.args.nodes.now (length c.args.work.now) (samples_of c.args.query.now) c.requires.0 in
-    (omega (arith, h), λ i j p q r. absurd (not-suc-le-zero r))
+    let h = some_node c.args.nodes.now (length c.args.heap.now.keys.now) (samples_of c.args.query.now.trace.now) c.requires.0 in
+    omega (arith, h)
 
 pub returns : goal.returns
 returns c =
     let nodes = c.args.nodes.now in
-    let m = length c.args.work.now in
-    let query = samples_of c.args.query.now in
+    let work = c.args.heap.now.keys.now in
+    let m = length work in
+    let query = samples_of c.args.query.now.trace.now in
+    let none : c.args.heap.now.len ≡ 0 = c.requires.1 in
     let h = some_node nodes m query c.requires.0 in
     let e = c.node_key-root.ensures ∙ key_is nodes m query 0 0 h in
-    let first : Pushed 0 (first_key (shape_in nodes m) query) c.args.work.now c.push.new.s = rw (← e) c.push.ensures in
-    begun (shape_in nodes m) c.requires.0.branching query c.args.work.now c.push.new.s (shape_size nodes m ∙ sym c.push.auto.s) first
+    let work' = c.push.new.self.keys.now in
+    let first : Pushed 0 (first_key (shape_in nodes m) query) work work' = rw (← e, ← none) c.push.ensures.pushed in
+    record {
+      room = c.push.ensures.room;
+      one = omega (arith, c.push.ensures.more);
+      begun = begun (shape_in nodes m) c.requires.0.branching query work work' (shape_size nodes m ∙ sym c.push.ensures.room.long) first;
+    }

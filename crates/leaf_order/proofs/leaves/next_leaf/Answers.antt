@@ -1,7 +1,7 @@
 -- `leaf_order::leaves::next_leaf` meets its contract: the keys that wait stand for the same leaves in every turn, and the nodes below them
 -- are the measure.
-use mathlib.Core.Path.{◌≡◌, refl, sym, ◌∙◌, subst}
-use Prim.Native.Nat.{ℕ, ◌+◌, ◌≤◌, ◌<◌}
+use mathlib.Core.Path.{◌≡◌, sym, ◌∙◌, subst}
+use Prim.Native.Nat.{ℕ, ◌+◌, ◌-◌, ◌≤◌, ◌<◌}
 use mathlib.Core.List.{List}
 use native.Mathlib.Omega.{arith}
 use lib.IntN.{ℤ}
@@ -42,61 +42,67 @@ module _ {nodes : List ℤ} {places : ℕ} {query : Trace} (walkable : Walkable 
   first_key : 0 < n → get_or work 0 0 ≡ key
   first_key some = least_at n work some waits.fits waits.heap key least.others least.keys
 
-pub loop-n-init : goal.loop-n-init
-loop-n-init c = (c.requires.2, refl, refl)
-
-pub least-x-requires : goal.least-x-requires
-least-x-requires c = let i = c.loop-n.invariant in (c.loop-n-test.true, i.0.fits, i.0.heap)
-
-pub shape_of-work-then-is_past : goal.shape_of-work-then-is_past
-shape_of-work-then-is_past c = c.loop-n.invariant.2
-
-pub returns-then-is_past : goal.returns-then-is_past
+pub returns-then-is_past-clause-handed : goal.returns-then-is_past-clause-handed
 unfolding Handed
-returns-then-is_past c =
-    let i = c.loop-n.invariant in
-    let past = least_past i.0 c.least-x.ensures.keys c.requires.0.branching c.args.limited c.args.limit (sym c.is_past.ensures ∙ c.if-is_past.true) in
-    record { past = subst (All (Past c.args.limited c.args.limit)) i.1 past; same = i.1; waits = i.0 }
+returns-then-is_past-clause-handed c =
+    let i = c.loop-x.invariant in
+    let past =
+    least_past i.0 c.in-Some.ensures.0.keys c.requires.0.branching c.args.limit (sym c.is_past.ensures ∙ c.if-is_past.true) in
+    record { past = subst (All (Past c.args.limit)) i.1 past; same = i.1; waits = i.0 }
 
-pub node_small-kind-requires : goal.node_small-kind-requires
-node_small-kind-requires c =
+pub is_leaf-requires : goal.is_leaf-requires
+is_leaf-requires c =
     let w = c.requires.0 in
-    let i = c.loop-n.invariant in
-    let j = key_number c.least-x.result in
-    let h = number_in w i.0 i.2 c.least-x.ensures in
-    let fits = number_fits c.args.nodes.now (length c.args.work.now) (samples_of c.args.query.now) w j h in
-    (w.record_room j h, fits, omega arith)
+    let i = c.loop-x.invariant in
+    let j = key_number c.in-Some.x in
+    let h = number_in w i.0 i.2 c.in-Some.ensures.0 in
+    let fits = number_fits c.args.nodes.now (length c.args.heap.now.keys.now) (samples_of c.args.query.now.trace.now) w j h in
+    (w.record_room j h, fits)
 
 -- ---- a leaf: its key is taken out
-pub pop-requires : goal.pop-requires
-pop-requires c = let i = c.loop-n.invariant in (c.loop-n-test.true, i.0.fits, i.0.heap)
 
-pub shape_of-work-then-kind-eq0 : goal.shape_of-work-then-kind-eq0
-shape_of-work-then-kind-eq0 c = c.pop.auto.s ∙ c.loop-n.invariant.2
-
-pub returns-then-kind-eq0 : goal.returns-then-kind-eq0
+pub returns-then-is_leaf-clause-handed : goal.returns-then-is_leaf-clause-handed
 unfolding Handed
-returns-then-kind-eq0 c =
+returns-then-is_leaf-clause-handed c =
     let w = c.requires.0 in
-    let i = c.loop-n.invariant in
-    let key = c.least-x.result in
-    let kind = sym c.node_small-kind.ensures ∙ c.if-kind-eq0.true in
-    let at = is_leaf c.args.nodes.now (length c.args.work.now) (key_number key) (number_in w i.0 i.2 c.least-x.ensures) kind in
-    let took : KeyTaken (shape_in c.args.nodes.now (length c.args.work.now)) (samples_of c.args.query.now) c.loop-n.n c.loop-n.work key c.pop.new.s =
-    record { branching = w.branching; waits = i.0; long = c.pop.auto.s; popped = same_least c.least-x.ensures c.pop.ensures } in
-    let h = took_leaf took at c.args.limited c.args.limit (sym c.is_past.ensures ∙ c.if-is_past.false) in
-    record { first = sym i.1 ∙ h.first; inside = h.inside; is_leaf = h.is_leaf; within = h.within; waits = h.waits }
-
-pub open_node-requires : goal.open_node-requires
-open_node-requires c =
-    let w = c.requires.0 in
-    let i = c.loop-n.invariant in
-    let least = c.least-x.ensures in
-    let inner_kind : 1 ≤ small_at (record_of c.args.nodes.now (key_number c.least-x.result)) kind_place = omega (arith, c.if-kind-eq0.false, c.node_small-kind.ensures) in
+    let i = c.loop-x.invariant in
+    let key = c.in-Some.x in
+    let n = c.loop-x.heap.len in
+    let least = c.in-Some.ensures.0 in
+    let m = length c.args.heap.now.keys.now in
+    let kind = c.if-is_leaf.ensures in
+    let at = is_leaf c.args.nodes.now m (key_number key) (number_in w i.0 i.2 least) kind in
+    let took : KeyTaken (shape_in c.args.nodes.now m) (samples_of c.args.query.now.trace.now) n c.loop-x.heap.keys.now key c.pop.new.self.keys.now =
     record {
-      walkable = (rw i.2 w, c.requires.1, c.loop-n-test.true, omega (arith, more w i.0 i.2 least inner_kind, i.2), i.0.heap);
-      inner = (omega (arith, number_in w i.0 i.2 least, i.2), omega (arith, c.least-x.type_inv), inner_kind, omega (arith, first_key w i.0 i.2 least c.loop-n-test.true));
-    }
+      branching = w.branching;
+      waits = i.0;
+      long = c.pop.ensures.room.long;
+      popped = same_least least c.pop.ensures.popped;
+    } in
+    let h = took_leaf took at c.args.limit (sym c.is_past.ensures ∙ c.if-is_past.false) in
+    let left : c.pop.new.self.len ≡ n - 1 = omega (arith, c.pop.ensures.less) in
+    rw left (record { first = sym i.1 ∙ h.first; inside = h.inside; is_leaf = h.is_leaf; within = h.within; waits = h.waits })
+
+pub open_node-requires-clause-walkable : goal.open_node-requires-clause-walkable
+open_node-requires-clause-walkable c =
+    let w = c.requires.0 in
+    let i = c.loop-x.invariant in
+    let inner_kind : 1 ≤ small_at (record_of c.args.nodes.now (key_number c.in-Some.x)) kind_place =
+    c.if-is_leaf.ensures in
+    (rw i.2 w, c.in-Some.ensures.1, omega (arith, more w i.0 i.2 c.in-Some.ensures.0 inner_kind, i.2))
+
+pub open_node-requires-clause-inner : goal.open_node-requires-clause-inner
+open_node-requires-clause-inner c =
+    let w = c.requires.0 in
+    let i = c.loop-x.invariant in
+    let least = c.in-Some.ensures.0 in
+    let inner_kind : 1 ≤ small_at (record_of c.args.nodes.now (key_number c.in-Some.x)) kind_place =
+    c.if-is_leaf.ensures in (
+      omega (arith, number_in w i.0 i.2 least, i.2),
+      omega arith,
+      inner_kind,
+      omega (arith, first_key w i.0 i.2 least c.in-Some.ensures.1),
+    )
 
 -- both keys are in
 module _ {nodes : List ℤ} {places : ℕ} {query : Trace} (walkable : Walkable nodes places query) {n : ℕ} {work work' : List ℕ} {key : ℕ}
@@ -122,37 +128,38 @@ module _ {nodes : List ℤ} {places : ℕ} {query : Trace} (walkable : Walkable 
       let h = opened in
       inner_same waits least.keys walkable.branching (here walkable waits long least inner_kind).is_inner some h.between work' kept h.right h.left
 
-pub overflow_add-n : goal.overflow_add-n
-overflow_add-n c =
-    let w = c.requires.0 in
-    let i = c.loop-n.invariant in
-    let inner_kind : 1 ≤ small_at (record_of c.args.nodes.now (key_number c.least-x.result)) kind_place = omega (arith, c.if-kind-eq0.false, c.node_small-kind.ensures) in
-    omega (arith, more w i.0 i.2 c.least-x.ensures inner_kind, w.branching.few, shape_size c.args.nodes.now (length c.args.work.now))
+pub loop-x-smaller : goal.loop-x-smaller
+loop-x-smaller c =
+    let i = c.loop-x.invariant in
+    let inner_kind : 1 ≤ small_at (record_of c.args.nodes.now (key_number c.in-Some.x)) kind_place =
+    c.if-is_leaf.ensures in
+    rw c.open_node.ensures.more
+    (less c.requires.0 i.0 i.2 c.in-Some.ensures.0 inner_kind c.in-Some.ensures.1 c.open_node.ensures.room.long c.open_node.ensures.pushed)
 
-pub loop-n-smaller : goal.loop-n-smaller
-loop-n-smaller c =
-    let i = c.loop-n.invariant in
-    let inner_kind : 1 ≤ small_at (record_of c.args.nodes.now (key_number c.least-x.result)) kind_place = omega (arith, c.if-kind-eq0.false, c.node_small-kind.ensures) in
-    less c.requires.0 i.0 i.2 c.least-x.ensures inner_kind c.loop-n-test.true c.open_node.auto.work c.open_node.ensures
-
-pub loop-n-preserved : goal.loop-n-preserved
-loop-n-preserved c =
+pub loop-x-preserved : goal.loop-x-preserved
+loop-x-preserved c =
     let w = c.requires.0 in
-    let i = c.loop-n.invariant in
-    let least = c.least-x.ensures in
-    let inner_kind : 1 ≤ small_at (record_of c.args.nodes.now (key_number c.least-x.result)) kind_place = omega (arith, c.if-kind-eq0.false, c.node_small-kind.ensures) in (
-      still_waits w i.0 i.2 least inner_kind c.loop-n-test.true c.open_node.auto.work c.open_node.ensures,
-      same w i.0 i.2 least inner_kind c.loop-n-test.true c.open_node.auto.work c.open_node.ensures ∙ i.1,
-      c.open_node.auto.work ∙ i.2,
+    let i = c.loop-x.invariant in
+    let least = c.in-Some.ensures.0 in
+    let o = c.open_node.ensures in
+    let inner_kind : 1 ≤ small_at (record_of c.args.nodes.now (key_number c.in-Some.x)) kind_place =
+    c.if-is_leaf.ensures in
+    rw o.more (
+      still_waits w i.0 i.2 least inner_kind c.in-Some.ensures.1 o.room.long o.pushed,
+      same w i.0 i.2 least inner_kind c.in-Some.ensures.1 o.room.long o.pushed ∙ i.1,
+      o.room.long ∙ i.2,
+      o.room.same ∙ i.3,
     )
 
 -- ---- no key waits
-pub shape_of-work : goal.shape_of-work
-shape_of-work c = c.loop-n.invariant.2
 
-pub returns : goal.returns
+pub returns-clause-handed : goal.returns-clause-handed
 unfolding Handed
-returns c =
-    let L = c.loop-n in
-    let none = sym L.invariant.1 ∙ none_remain (shape_in c.args.nodes.now (length c.args.work.now)) c.requires.0.branching (samples_of c.args.query.now) L.work L.n c.loop-n-test.false in
-    record { past = subst (All (Past c.args.limited c.args.limit)) (sym none) all_none; same = L.invariant.1; waits = L.invariant.0 }
+returns-clause-handed c =
+    let i = c.loop-x.invariant in
+    let heap = c.loop-x.heap in
+    let m = length c.args.heap.now.keys.now in
+    let none =
+    sym i.1 ∙ none_remain (shape_in c.args.nodes.now m) c.requires.0.branching (samples_of c.args.query.now.trace.now) heap.keys.now heap.len
+    (omega (arith, c.in_default.ensures)) in
+    record { past = subst (All (Past c.args.limit)) (sym none) all_none; same = i.1; waits = i.0 }

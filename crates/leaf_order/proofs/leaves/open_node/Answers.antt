@@ -35,56 +35,59 @@ pub node_small-first-requires : goal.node_small-first-requires
 node_small-first-requires c =
     let w = c.requires.walkable.0 in
     let h = c.requires.inner.0 in
-    (w.record_room c.args.j h, fits c.args.query.now w c.args.j h, omega arith)
+    (w.record_room c.args.j h, fits c.args.query.now.trace.now w c.args.j h, omega arith)
 
 pub node_small-second-requires : goal.node_small-second-requires
 node_small-second-requires c =
     let w = c.requires.walkable.0 in
     let h = c.requires.inner.0 in
-    (w.record_room c.args.j h, fits c.args.query.now w c.args.j h, omega arith)
+    (w.record_room c.args.j h, fits c.args.query.now.trace.now w c.args.j h, omega arith)
 
 pub node_key-right-requires : goal.node_key-right-requires
 node_key-right-requires c =
     let w = c.requires.walkable.0 in
     let j = c.node_small-second.result in
-    let h = right_inside c.args.query.now w c.requires.inner.0 c.requires.inner.2 c.node_small-second.ensures in
-    (w.record_room j h, omega (arith, fits c.args.query.now w j h), c.requires.inner.1, c.requires.walkable.1, bounded c.args.query.now w j h)
+    let h = right_inside c.args.query.now.trace.now w c.requires.inner.0 c.requires.inner.2 c.node_small-second.ensures in
+    (w.record_room j h, omega (arith, fits c.args.query.now.trace.now w j h), c.requires.inner.1, bounded c.args.query.now.trace.now w j h)
 
 pub node_key-left-requires : goal.node_key-left-requires
 node_key-left-requires c =
     let w = c.requires.walkable.0 in
     let j = c.node_small-first.result in
-    let h = left_inside c.args.query.now w c.requires.inner.0 c.requires.inner.2 c.node_small-first.ensures in
-    (w.record_room j h, omega (arith, fits c.args.query.now w j h), c.requires.inner.1, c.requires.walkable.1, bounded c.args.query.now w j h)
+    let h = left_inside c.args.query.now.trace.now w c.requires.inner.0 c.requires.inner.2 c.node_small-first.ensures in
+    (w.record_room j h, omega (arith, fits c.args.query.now.trace.now w j h), c.requires.inner.1, bounded c.args.query.now.trace.now w j h)
 
 -- the right child's key is not below its parent's
-pub sink-requires : goal.sink-requires
-sink-requires c =
+pub replace_least-requires : goal.replace_least-requires
+replace_least-requires c =
     let r = c.requires.walkable in
-    let over = right_over c.args.nodes.now (length c.args.work.now) (samples_of c.args.query.now) r.0 c.args.j c.requires.inner.0 c.requires.inner.2 in (
-      r.2,
-      omega (arith, r.3),
-      r.4,
-      omega (arith, c.requires.inner.3, c.node_key-right.ensures, c.node_small-second.ensures, over),
-    )
+    let m = length c.args.heap.now.keys.now in
+    let over = right_over c.args.nodes.now m (samples_of c.args.query.now.trace.now) r.0 c.args.j c.requires.inner.0 c.requires.inner.2 in
+    (r.1, omega (arith, c.requires.inner.3, c.node_key-right.ensures, c.node_small-second.ensures, over))
 
 pub push-requires : goal.push-requires
-push-requires c = (omega (arith, c.requires.walkable.3, c.sink.auto.s), c.sink.ensures.heap)
+push-requires c = omega (arith, c.requires.walkable.2, c.replace_least.ensures.room.long, c.replace_least.ensures.as_many)
 
 pub returns : goal.returns
 returns c =
     let nodes = c.args.nodes.now in
-    let m = length c.args.work.now in
-    let query = samples_of c.args.query.now in
+    let m = length c.args.heap.now.keys.now in
+    let query = samples_of c.args.query.now.trace.now in
     let above = c.args.above in
     let w = c.requires.walkable.0 in
-    let second = right_inside c.args.query.now w c.requires.inner.0 c.requires.inner.2 c.node_small-second.ensures in
-    let first = left_inside c.args.query.now w c.requires.inner.0 c.requires.inner.2 c.node_small-first.ensures in
+    let second = right_inside c.args.query.now.trace.now w c.requires.inner.0 c.requires.inner.2 c.node_small-second.ensures in
+    let first = left_inside c.args.query.now.trace.now w c.requires.inner.0 c.requires.inner.2 c.node_small-first.ensures in
     let r = c.node_key-right.ensures ∙ (key_is nodes m query c.node_small-second.result above second ∙ ap (child_key (shape_in nodes m) query above) c.node_small-second.ensures) in
     let l = c.node_key-left.ensures ∙ (key_is nodes m query c.node_small-first.result above first ∙ ap (child_key (shape_in nodes m) query above) c.node_small-first.ensures) in
+    let t = c.replace_least.ensures in
+    let p = c.push.ensures in
     record {
-      between = c.sink.new.s;
-      long = c.sink.auto.s;
-      right = rw (← r) c.sink.ensures;
-      left = rw (← l) c.push.ensures;
+      room = record { same = p.room.same ∙ t.room.same; long = p.room.long ∙ t.room.long };
+      more = omega (arith, p.more, t.as_many);
+      pushed = record {
+        between = c.replace_least.new.self.keys.now;
+        long = t.room.long;
+        right = rw (← r) t.sunk;
+        left = rw (← l, ← t.as_many) p.pushed;
+      };
     }

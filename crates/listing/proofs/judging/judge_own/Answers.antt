@@ -1,7 +1,7 @@
 -- `listing::judging::judge_own` meets its contract: k first, then query and trail, then the list's length.
 use Rattle.dstree.specs.Measures.{Trace}
 use Prim.Native.Nat.{ℕ, ◌*◌}
-use mathlib.Core.Path.{◌≡◌, sym, ap, ◌∙◌}
+use mathlib.Core.Path.{◌≡◌, sym, ◌∙◌}
 use mathlib.Core.Bool.{true}
 use mathlib.Core.Option.{none}
 use mathlib.Core.List.{List, [], ◌∷◌, ◌++◌}
@@ -15,6 +15,7 @@ use Rattle.dstree.specs.Refusals.{Condition, ◌refuses◌, first_of}
 use Rattle.dstree.proofs.Conditions.{first_some, first_none}
 use Rattle.tables.specs.Tables.{Tables, tables}
 use Rattle.tables.specs.Answers.{word_of, found_by}
+use Rattle.tables.proofs.Passed.{passed}
 use Rattle.calls.specs.Effects.{query_conditions_in, list_conditions_in}
 use Rattle.listing.proofs.Range.{k_range}
 use Rattle.listing.proofs.judging.judge_own.Goals as goal
@@ -51,27 +52,27 @@ returns-then-list-k c samples links work =
     let t = tables a.control.now samples a.nodes.now links work in
     rw (
       only t a.query.now a.trail.now a.list.now a.k (sym c.is_k.ensures ∙ c.if-not-is_k.false)
-          (sym (c.judge_query-asked.ensures samples links work) ∙ ap found_by c.in-Fine.is),
+          (sym (c.in_ok-judge_query.ensures samples links work)),
       lt-ltb (length a.list.now) (2 * a.k) (omega (arith, c.if-list-k.true)),
     )
 
-pub returns-in-Refused : goal.returns-in-Refused
+pub returns-in_err-judge_query : goal.returns-in_err-judge_query
 unfolding found_by
-returns-in-Refused c samples links work =
+returns-in_err-judge_query c samples links work =
     let a = c.args in
     let t = tables a.control.now samples a.nodes.now links work in
-    sym (later t a.query.now a.trail.now a.list.now a.k (sym c.is_k.ensures ∙ c.if-not-is_k.false)
+    rw (passed c.from_residual.result _ c.from_residual.ensures.1) (sym (later t a.query.now a.trail.now a.list.now a.k (sym c.is_k.ensures ∙ c.if-not-is_k.false)
     ∙ first_some (asked t a.query.now a.trail.now a.list.now a.k (sym c.is_k.ensures ∙ c.if-not-is_k.false))
     (room t a.query.now a.trail.now a.list.now a.k (sym c.is_k.ensures ∙ c.if-not-is_k.false)) _
-    (sym (c.judge_query-asked.ensures samples links work) ∙ ap found_by c.in-Refused.is))
+    (sym (c.in_err-judge_query.ensures samples links work))))
 
-pub returns-else-list-k : goal.returns-else-list-k
+pub returns : goal.returns
 unfolding found_by first_of
-returns-else-list-k c samples links work =
+returns c samples links work =
     let a = c.args in
     let t = tables a.control.now samples a.nodes.now links work in
     rw (
       only t a.query.now a.trail.now a.list.now a.k (sym c.is_k.ensures ∙ c.if-not-is_k.false)
-          (sym (c.judge_query-asked.ensures samples links work) ∙ ap found_by c.in-Fine.is),
+          (sym (c.in_ok-judge_query.ensures samples links work)),
       le-ltb (length a.list.now) (2 * a.k) (omega (arith, c.if-list-k.false)),
     )

@@ -1,6 +1,6 @@
 -- `nodes_fit::nodes::children_fit` meets its contract, by the kind field: a leaf has no child, and an inner node's two are tested
 -- together.
-use mathlib.Core.Path.{◌≡◌, sym, subst, ◌∙◌}
+use mathlib.Core.Path.{◌≡◌, sym, subst}
 use mathlib.Core.List.{List}
 use Prim.Native.Nat.{ℕ, ◌+◌, ◌*◌, ◌≤◌, ◌<◌}
 use native.Mathlib.Omega.{arith}
@@ -31,14 +31,14 @@ module _ (nodes : List ℤ) (j : ℕ) (w : HeadFits j nodes) where
     right_there : (small_at r right_place * record_places + record_places ≤ length nodes) × (small_at r right_place ≤ 8191)
     right_there = there (small_at r right_place) (right_above w.n w.m j r w.fit f).1
 
-pub returns-then-kind-eq0 : goal.returns-then-kind-eq0
-returns-then-kind-eq0 c e = leaf_under c.args.n c.args.nodes.now c.args.j (sym c.node_small-kind.ensures ∙ c.if-kind-eq0.true)
+pub returns-then-is_leaf : goal.returns-then-is_leaf
+returns-then-is_leaf c e = leaf_under c.args.n c.args.nodes.now c.args.j c.if-is_leaf.ensures
 
 pub twins_fit-requires : goal.twins_fit-requires
 twins_fit-requires c =
     let nodes = c.args.nodes.now in
     let j = c.args.j in
-    let inner = λ (e : small_at (record_of nodes j) kind_place ≡ 0). c.if-kind-eq0.false (c.node_small-kind.ensures ∙ e) in
+    let inner : small_at (record_of nodes j) kind_place ≡ 0 → ⊥ = λ e. absurd (omega (arith, e, c.if-is_leaf.ensures)) in
     let P : ℕ → Type 0 = λ x. (x * record_places + record_places ≤ length nodes) × (x ≤ 8191) in
     let x = subst P (sym c.node_small.ensures) (left_there nodes j c.requires inner) in
     let y = subst P (sym c.node_small-2.ensures) (right_there nodes j c.requires inner) in
@@ -49,7 +49,7 @@ pub returns : goal.returns
 returns c e =
     let nodes = c.args.nodes.now in
     let j = c.args.j in
-    let inner = λ (e : small_at (record_of nodes j) kind_place ≡ 0). c.if-kind-eq0.false (c.node_small-kind.ensures ∙ e) in
+    let inner : small_at (record_of nodes j) kind_place ≡ 0 → ⊥ = λ e. absurd (omega (arith, e, c.if-is_leaf.ensures)) in
     let u = c.twins_fit.ensures e in
     let P : ℕ → Type 0 = λ x. Under c.args.n (record_of nodes x) (record_of nodes j) in
     inner_under c.args.n nodes j inner (kind_named c.requires.n c.requires.m j (record_of nodes j) c.requires.fit)

@@ -17,4 +17,4 @@ unfolding all_kept
 returns c =
     let L = c.loop-j in
     let a = c.args in
-    all_passed (kept_at a.nodes.now) a.m 0 (λ x g h. L.invariant.1 x (omega arith))
+    all_passed (kept_at a.nodes.now) a.m 0 (λ x g h. L.invariant x (omega arith))

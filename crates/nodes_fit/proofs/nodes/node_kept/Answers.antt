@@ -42,14 +42,14 @@ module _ (nodes : List ℤ) (j : ℕ) (w : InUse j nodes) where
   named : small_at r kind_place ≤ 2
   named = kind_named n m j r heads
 
-pub returns-then-kind-eq0 : goal.returns-then-kind-eq0
-returns-then-kind-eq0 c = sym (leaf_keeps c.args.nodes.now c.args.j (sym c.node_small-kind.ensures ∙ c.if-kind-eq0.true))
+pub returns-then-is_leaf : goal.returns-then-is_leaf
+returns-then-is_leaf c = sym (leaf_keeps c.args.nodes.now c.args.j c.if-is_leaf.ensures)
 
 pub kept-requires : goal.kept-requires
 kept-requires c =
     let nodes = c.args.nodes.now in
     let j = c.args.j in
-    let inner = λ (e : small_at (record_of nodes j) kind_place ≡ 0). c.if-kind-eq0.false (c.node_small-kind.ensures ∙ e) in
+    let inner : small_at (record_of nodes j) kind_place ≡ 0 → ⊥ = λ e. absurd (omega (arith, e, c.if-is_leaf.ensures)) in
     let w = c.requires in
     askable nodes j w c.node_small-left.result (omega (arith, c.node_small-left.ensures, (left_above w.all.n w.m j (record_of nodes j) (heads nodes j w) inner).1))
 
@@ -58,7 +58,7 @@ returns-then-not-kept c =
     let nodes = c.args.nodes.now in
     let j = c.args.j in
     let r = record_of nodes j in
-    let inner = λ (e : small_at r kind_place ≡ 0). c.if-kind-eq0.false (c.node_small-kind.ensures ∙ e) in
+    let inner : small_at r kind_place ≡ 0 → ⊥ = λ e. absurd (omega (arith, e, c.if-is_leaf.ensures)) in
     let left : ends_in (segments_in (record_of nodes (small_at r first_place))) (segments_in r) ≡ false =
     sym (c.kept.ensures ∙ ap (λ (x : ℕ). ends_in (segments_in (record_of nodes x)) (segments_in r)) c.node_small-left.ensures) ∙ c.if-not-kept.true in
     sym (left_loses nodes j inner (named nodes j c.requires) left)
@@ -67,7 +67,7 @@ pub kept-requires-2 : goal.kept-requires-2
 kept-requires-2 c =
     let nodes = c.args.nodes.now in
     let j = c.args.j in
-    let inner = λ (e : small_at (record_of nodes j) kind_place ≡ 0). c.if-kind-eq0.false (c.node_small-kind.ensures ∙ e) in
+    let inner : small_at (record_of nodes j) kind_place ≡ 0 → ⊥ = λ e. absurd (omega (arith, e, c.if-is_leaf.ensures)) in
     let w = c.requires in
     askable nodes j w c.node_small-right.result (omega (arith, c.node_small-right.ensures, (right_above w.all.n w.m j (record_of nodes j) (heads nodes j w) inner).1))
 
@@ -76,7 +76,7 @@ returns c =
     let nodes = c.args.nodes.now in
     let j = c.args.j in
     let r = record_of nodes j in
-    let inner = λ (e : small_at r kind_place ≡ 0). c.if-kind-eq0.false (c.node_small-kind.ensures ∙ e) in
+    let inner : small_at r kind_place ≡ 0 → ⊥ = λ e. absurd (omega (arith, e, c.if-is_leaf.ensures)) in
     let left : ends_in (segments_in (record_of nodes (small_at r first_place))) (segments_in r) ≡ true =
     sym (c.kept.ensures ∙ ap (λ (x : ℕ). ends_in (segments_in (record_of nodes x)) (segments_in r)) c.node_small-left.ensures) ∙ c.if-not-kept.false in
     c.kept-2.ensures

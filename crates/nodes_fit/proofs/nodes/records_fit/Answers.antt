@@ -18,4 +18,4 @@ unfolding records_fit
 returns c =
     let L = c.loop-j in
     let a = c.args in
-    all_passed (fits a.nodes.now a.m a.n) a.m 0 (λ x g h. L.invariant.1 x (omega arith))
+    all_passed (fits a.nodes.now a.m a.n) a.m 0 (λ x g h. L.invariant x (omega arith))

@@ -2,7 +2,7 @@
 use mathlib.Core.Path.{◌≡◌}
 use mathlib.Core.Bool.{Bool, true}
 use mathlib.Core.List.{List}
-use Prim.Native.Nat.{ℕ, ◌-◌, ◌≤◌, ◌<◌}
+use Prim.Native.Nat.{ℕ, ◌<◌}
 use lib.IntN.{ℤ}
 use Rattle.tables.specs.Tables.{record_of}
 use Rattle.records_fit.specs.Fits.{record_fits}
@@ -12,7 +12,4 @@ abbrev pub fits : List ℤ → ℕ → ℕ → ℕ → Bool
 fits nodes m n j = record_fits n m j (record_of nodes j)
 
 abbrev pub invariant-loop-j : goal.invariant-loop-j
-invariant-loop-j l = (l.j ≤ l.m) × ((x : ℕ) → x < l.j → fits l.nodes l.m l.n x ≡ true)
-
-abbrev pub decreases-loop-j : goal.decreases-loop-j
-decreases-loop-j l = l.m - l.j
+invariant-loop-j l = (x : ℕ) → x < l.j → fits l.nodes l.m l.n x ≡ true

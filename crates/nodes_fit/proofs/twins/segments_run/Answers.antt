@@ -19,11 +19,10 @@ loop-i-preserved c =
     let a = c.args in
     let here = c.loop-i-test.true in
     let both = c.segments_fit.ensures c.if-not-segments_fit.false in (
-      omega (arith, here),
       omega (arith, c.end_at-before.ensures, both.0.inside),
-      met_most w.2 c.met-p.ensures,
-      passing_more a.n a.count a.left.now a.parent.now w.3 here both.0 c.end_at-before.ensures c.met-p.ensures,
-      passing_more a.n a.count a.right.now a.parent.now w.4 here both.1 (c.end_at-before.ensures ∙ sym both.2) c.met-p.ensures,
+      met_most w.1 c.met-p.ensures,
+      passing_more a.n a.count a.left.now a.parent.now w.2 here both.0 c.end_at-before.ensures c.met-p.ensures,
+      passing_more a.n a.count a.right.now a.parent.now w.3 here both.1 (c.end_at-before.ensures ∙ sym both.2) c.met-p.ensures,
     )
 
 pub returns : goal.returns
@@ -33,6 +32,6 @@ returns c e =
     let p = c.requires in
     let done = c.loop-i-test.false in
     let z = eqb-true L.before a.n e in (
-      passing_all a.n a.count a.left.now a.parent.now L.invariant.3 p.3 (c.if-p-many.false ∙ p.5) p.6 p.7 done z,
-      passing_all a.n a.count a.right.now a.parent.now L.invariant.4 p.4 (c.if-p-many.false ∙ p.5) p.6 p.7 done z,
+      passing_all a.n a.count a.left.now a.parent.now L.invariant.2 p.3 (c.if-p-many.false ∙ p.5) p.6 p.7 done z,
+      passing_all a.n a.count a.right.now a.parent.now L.invariant.3 p.4 (c.if-p-many.false ∙ p.5) p.6 p.7 done z,
     )

@@ -1,6 +1,6 @@
 -- `numbers_fit::children::mark_children` meets its contract, by the kind field: a leaf has no child, and an inner node's two are marked one
 -- after the other.
-use mathlib.Core.Path.{◌≡◌, sym, ◌∙◌}
+use mathlib.Core.Path.{◌≡◌, ◌∙◌}
 use mathlib.Core.List.{List, [], ◌∷◌}
 use Prim.Native.Nat.{ℕ, ◌≤◌, ◌<◌}
 use native.Mathlib.Omega.{arith}
@@ -34,31 +34,31 @@ module _ (nodes : List ℤ) (j : ℕ) (w : HeadFits j nodes) where
     read_two : {left right : ℕ} → left ≡ small_at r first_place → right ≡ small_at r right_place → children_at nodes j ≡ left ∷ (right ∷ [])
     read_two g h = two_children nodes j f named ∙ rw (g, h)
 
-pub returns-then-kind-eq0 : goal.returns-then-kind-eq0
-returns-then-kind-eq0 c =
-    took_as (no_child c.args.nodes.now c.args.j (sym c.node_small-kind.ensures ∙ c.if-kind-eq0.true)) (took_none c.args.marks.now)
+pub returns-then-is_leaf : goal.returns-then-is_leaf
+returns-then-is_leaf c =
+    took_as (no_child c.args.nodes.now c.args.j c.if-is_leaf.ensures) (took_none c.args.marks.now)
 
 pub mark-requires : goal.mark-requires
 mark-requires c =
     let nodes = c.args.nodes.now in
-    let inner = λ (e : small_at (record_of nodes c.args.j) kind_place ≡ 0). c.if-kind-eq0.false (c.node_small-kind.ensures ∙ e) in
-    (omega (arith, c.node_small-left.ensures, left_low nodes c.args.j c.requires.0 inner), c.requires.1)
+    let inner : small_at (record_of nodes c.args.j) kind_place ≡ 0 → ⊥ = λ e. absurd (omega (arith, e, c.if-is_leaf.ensures)) in
+    omega (arith, c.node_small-left.ensures, left_low nodes c.args.j c.requires inner)
 
 pub returns-then-not-mark : goal.returns-then-not-mark
 returns-then-not-mark c =
     let nodes = c.args.nodes.now in
-    let inner = λ (e : small_at (record_of nodes c.args.j) kind_place ≡ 0). c.if-kind-eq0.false (c.node_small-kind.ensures ∙ e) in
-    took_as (read_two nodes c.args.j c.requires.0 inner c.node_small-left.ensures c.node_small-right.ensures) (took_first c.node_small-right.result c.mark.ensures c.if-not-mark.true)
+    let inner : small_at (record_of nodes c.args.j) kind_place ≡ 0 → ⊥ = λ e. absurd (omega (arith, e, c.if-is_leaf.ensures)) in
+    took_as (read_two nodes c.args.j c.requires inner c.node_small-left.ensures c.node_small-right.ensures) (took_first c.node_small-right.result c.mark.ensures c.if-not-mark.true)
 
 pub mark-requires-2 : goal.mark-requires-2
 mark-requires-2 c =
     let nodes = c.args.nodes.now in
-    let inner = λ (e : small_at (record_of nodes c.args.j) kind_place ≡ 0). c.if-kind-eq0.false (c.node_small-kind.ensures ∙ e) in
-    (omega (arith, c.node_small-right.ensures, right_low nodes c.args.j c.requires.0 inner), (c.mark.ensures.new c.if-not-mark.false).size ∙ c.requires.1)
+    let inner : small_at (record_of nodes c.args.j) kind_place ≡ 0 → ⊥ = λ e. absurd (omega (arith, e, c.if-is_leaf.ensures)) in
+    omega (arith, c.node_small-right.ensures, right_low nodes c.args.j c.requires inner)
 
 pub returns : goal.returns
 returns c =
     let nodes = c.args.nodes.now in
-    let inner = λ (e : small_at (record_of nodes c.args.j) kind_place ≡ 0). c.if-kind-eq0.false (c.node_small-kind.ensures ∙ e) in
-    took_as (read_two nodes c.args.j c.requires.0 inner c.node_small-left.ensures c.node_small-right.ensures)
+    let inner : small_at (record_of nodes c.args.j) kind_place ≡ 0 → ⊥ = λ e. absurd (omega (arith, e, c.if-is_leaf.ensures)) in
+    took_as (read_two nodes c.args.j c.requires inner c.node_small-left.ensures c.node_small-right.ensures)
     (took_both c.node_small-right.result c.mark.ensures c.if-not-mark.false c.mark-2.ensures)

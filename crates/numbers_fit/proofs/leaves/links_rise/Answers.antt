@@ -1,5 +1,4 @@
 -- `numbers_fit::leaves::links_rise` meets its contract. The loop's invariant: how many of the links passed rise, and how many end a list.
-use mathlib.Core.Path.{refl}
 use Rattle.numbers_fit.proofs.Taking.{counted_start, counted_more}
 use Rattle.numbers_fit.proofs.leaves.links_rise.Goals as goal
 
@@ -8,5 +7,5 @@ loop-i-init c = let a = c.args in counted_start a.links.now a.k
 
 pub loop-i-preserved : goal.loop-i-preserved
 loop-i-preserved c =
-    counted_more c.args.links.now c.args.k c.rises-fit.result c.ended-ends.result c.loop-i.invariant c.loop-i-test.true refl
-    c.rises-fit.ensures c.ended-ends.ensures
+    let more = counted_more c.args.links.now c.args.k c.rises.result c.loop-i.invariant c.loop-i-test.true c.rises.ensures in
+    rw (c.from-fit.ensures, c.from-ends.ensures) more

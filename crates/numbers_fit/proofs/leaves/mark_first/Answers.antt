@@ -16,22 +16,22 @@ use Rattle.numbers_fit.proofs.Taking.{named_as, named_none, named_above, named_o
 use Rattle.numbers_fit.proofs.leaves.mark_first.Goals as goal
 
 -- a leaf's first number, as it was read
-first_is : (nodes : List ℤ) (j : ℕ) {kind first : ℕ} → kind ≡ small_at (record_of nodes j) kind_place → kind ≡ 0 → first ≡ small_at (record_of nodes j) first_place → first_at nodes j ≡ first ∷ []
-first_is nodes j e z f =
-    ap (λ (b : Bool). if b then small_at (record_of nodes j) first_place ∷ [] else []) (eq-eqb (small_at (record_of nodes j) kind_place) 0 (sym e ∙ z))
+first_is : (nodes : List ℤ) (j : ℕ) {first : ℕ} → small_at (record_of nodes j) kind_place ≡ 0 → first ≡ small_at (record_of nodes j) first_place → first_at nodes j ≡ first ∷ []
+first_is nodes j z f =
+    ap (λ (b : Bool). if b then small_at (record_of nodes j) first_place ∷ [] else []) (eq-eqb (small_at (record_of nodes j) kind_place) 0 z)
     ∙ ap (λ (x : ℕ). x ∷ []) (sym f)
 
-pub returns-then-kind-ne0 : goal.returns-then-kind-ne0
-returns-then-kind-ne0 c =
+pub returns-then-not-is_leaf : goal.returns-then-not-is_leaf
+returns-then-not-is_leaf c =
     let r = record_of c.args.nodes.now c.args.j in
-    let f : small_at r kind_place ≡ 0 → ⊥ = λ e. c.if-kind-ne0.true (c.node_small-kind.ensures ∙ e) in
+    let f : small_at r kind_place ≡ 0 → ⊥ = λ e. absurd (omega (arith, e, c.if-not-is_leaf.ensures)) in
     named_as (ap (λ (b : Bool). if b then small_at r first_place ∷ [] else []) (ne_eqb (small_at r kind_place) 0 f)) (named_none c.args.marks.now)
 
 pub returns-then-k-first : goal.returns-then-k-first
 returns-then-k-first c =
-    named_as (first_is c.args.nodes.now c.args.j c.node_small-kind.ensures c.if-kind-ne0.false c.node_small-first.ensures) (named_above c.node_small-first.result c.if-k-first.true)
+    named_as (first_is c.args.nodes.now c.args.j c.if-not-is_leaf.ensures c.node_small-first.ensures) (named_above c.node_small-first.result c.if-k-first.true)
 
 pub returns : goal.returns
 returns c =
-    named_as (first_is c.args.nodes.now c.args.j c.node_small-kind.ensures c.if-kind-ne0.false c.node_small-first.ensures)
-    (named_one c.node_small-first.result (omega (arith, c.if-k-first.false)) c.mark_trace.ensures)
+    named_as (first_is c.args.nodes.now c.args.j c.if-not-is_leaf.ensures c.node_small-first.ensures)
+    (named_one c.node_small-first.result (omega (arith, c.if-k-first.false)) c.mark.ensures)

@@ -29,6 +29,6 @@ module _ (marks : List ℕ) (first count wide marked : ℕ) (tally : Tallied (Ma
 pub returns : goal.returns
 returns c =
     let a = c.args in
-    let all : c.loop-i.i ≡ a.count = omega (arith, c.loop-i-test.false, c.loop-i.invariant.0) in
-    let tally = subst (λ (x : ℕ). Tallied (Marked a.marks.now a.first) c.loop-i.marked x) all c.loop-i.invariant.1 in
+    let all : c.loop-i.i ≡ a.count = omega arith in
+    let tally = subst (λ (x : ℕ). Tallied (Marked a.marks.now a.first) c.loop-i.marked x) all c.loop-i.invariant in
     decides a.marks.now a.first a.count c.wide.result c.loop-i.marked tally c.wide.ensures (eqb c.wide.result a.count) refl

@@ -2,7 +2,7 @@
 use mathlib.Core.Path.{◌≡◌}
 use mathlib.Core.Bool.{Bool, true}
 use mathlib.Core.List.{List}
-use Prim.Native.Nat.{ℕ, ◌+◌, ◌-◌, ◌≤◌}
+use Prim.Native.Nat.{ℕ, ◌+◌}
 use lib.ListN.{get_or}
 use lib.Dec.{eqb}
 use Rattle.numbers_fit.proofs.Growth.{Tallied}
@@ -16,7 +16,4 @@ abbrev pub Marked : List ℕ → ℕ → ℕ → Type 0
 Marked marks first x = once marks (first + x) ≡ true
 
 abbrev pub invariant-loop-i : goal.invariant-loop-i
-invariant-loop-i l = (l.i ≤ l.count) × Tallied (Marked l.marks l.first) l.marked l.i
-
-abbrev pub decreases-loop-i : goal.decreases-loop-i
-decreases-loop-i l = l.count - l.i
+invariant-loop-i l = Tallied (Marked l.marks l.first) l.marked l.i

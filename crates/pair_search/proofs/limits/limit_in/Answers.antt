@@ -4,4 +4,4 @@ use Rattle.search.proofs.Turns.{past_is}
 use Rattle.pair_search.proofs.limits.limit_in.Goals as goal
 
 pub returns : goal.returns
-returns c = λ bound. past_is 1 c.args.listed c.args.list.now (omega arith) c.requires.0 bound
+returns c = λ bound. rw c.kth_distance.ensures (past_is 1 c.args.listed c.args.list.now (omega arith) c.requires.0 bound)

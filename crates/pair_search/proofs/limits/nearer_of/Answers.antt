@@ -1,21 +1,12 @@
--- `pair_search::limits::nearer_of` meets its contract, test by test (`Nearer`).
-use borrow.Author.Tests.{not-true, not-false}
-use Rattle.pair_search.proofs.Nearer.{first_none, second_none, second_nearer, first_nearer}
+-- `pair_search::limits::nearer_of` meets its contract, arm by arm (`Nearer`).
+use Rattle.pair_search.proofs.Nearer.{none_first, none_second, lesser}
 use Rattle.pair_search.proofs.limits.nearer_of.Goals as goal
 
-pub returns-then-not-a : goal.returns-then-not-a
-returns-then-not-a c = first_none c.args.a c.args.b (not-true c.args.a.limited c.if-not-a.true)
+pub returns-in-Some-Some : goal.returns-in-Some-Some
+returns-in-Some-Some c = λ bound. rw (c.in-Some-Some.is-0, c.in-Some-Some.is-1, c.min.ensures) (lesser c.in-Some-Some.first c.in-Some-Some.second bound)
 
-pub returns-then-not-b : goal.returns-then-not-b
-returns-then-not-b c =
-    second_none c.args.a c.args.b (not-true c.args.b.limited c.if-not-b.true)
+pub returns-in-Some-None : goal.returns-in-Some-None
+returns-in-Some-None c = λ bound. rw c.in-Some-None.is-1 (none_second c.args.a bound)
 
-pub returns-then-b-a : goal.returns-then-b-a
-returns-then-b-a c =
-    second_nearer c.args.a c.args.b (not-false c.args.a.limited c.if-not-a.false)
-    (not-false c.args.b.limited c.if-not-b.false) c.if-b-a.true
-
-pub returns : goal.returns
-returns c =
-    first_nearer c.args.a c.args.b (not-false c.args.a.limited c.if-not-a.false)
-    (not-false c.args.b.limited c.if-not-b.false) c.if-b-a.false
+pub returns-in-None-default : goal.returns-in-None-default
+returns-in-None-default c = λ bound. rw c.in-None-default.is-0 (none_first c.args.b bound)

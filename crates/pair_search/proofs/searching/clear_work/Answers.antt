@@ -9,8 +9,8 @@ use Rattle.search.specs.Searched.{without_work}
 use Rattle.search.proofs.Cleared.{as_many}
 use Rattle.pair_search.proofs.searching.clear_work.Goals as goal
 
-module _ (c : goal.After-zero_work-arg-1) where
-  abbrev from : goal.After-zero_work-arg-1
+module _ (c : goal.After-fill_first-arg-1) where
+  abbrev from : goal.After-fill_first-arg-1
   from = c
 
   abbrev measured : Measures
@@ -37,9 +37,9 @@ module _ (c : goal.After-slice_known-2-1) where
       ∙ (ap (λ (i : ℕ). records_needed (measures (field control 0) i (field control 2))) (c.wider-capacity.ensures ∙ c.field.ensures)
       ∙ as_many measured_2)
 
-pub zero_work-requires : goal.zero_work-requires
-zero_work-requires c = omega (arith, needed_is c, (from c).requires.1)
+pub fill_first-requires : goal.fill_first-requires
+fill_first-requires c = omega (arith, needed_is c, (from c).requires.1)
 
 pub returns : goal.returns
 returns c =
-    c.zero_work.ensures ∙ ap (λ (i : ℕ). filled i 0 (from_2 c).args.work.now) (needed_is_2 c)
+    c.fill_first.ensures ∙ ap (λ (i : ℕ). filled i 0 (from_2 c).args.work.now) (needed_is_2 c)

@@ -1,14 +1,13 @@
 -- `pair_search::searching::search_both` meets its contract: what was found in each library, joined (`Joined`), with both works set to zero
 -- behind the search (`Lending`).
-use mathlib.Core.Path.{◌≡◌, sym, ◌∙◌}
+use mathlib.Core.Path.{◌≡◌, sym}
 use mathlib.Core.List.{List, [], ◌∷◌}
 use Prim.Native.Nat.{ℕ, ◌≤◌}
 use native.Mathlib.Omega.{arith}
 use lib.ListN.{length}
 use Rattle.segment.specs.Stored.{samples_of}
 use Rattle.tables.specs.Tables.{Tables}
-use Rattle.search.specs.Searched.{without_work}
-use Rattle.pair_search.specs.Stepping.{slices}
+use Rattle.search.specs.Lent.{stored_tables}
 use Rattle.pair_search.specs.Visiting.{SideVisited}
 use Rattle.pair_search.specs.declared.sides.Side.{Side}
 use Rattle.pair_search.proofs.Taken.{capacity_few, few_leaves}
@@ -28,8 +27,8 @@ search_lists-both-requires c =
 pub clear_work-requires : goal.clear_work-requires
 clear_work-requires c =
     let a = c.args in
-    let ours = without_work a.control.now a.samples.now a.nodes.now a.links.now in
-    let theirs = without_work a.bench_control.now a.bench_samples.now a.bench_nodes.now a.bench_links.now in
+    let ours = stored_tables a.stored in
+    let theirs = stored_tables a.bench_stored in
     let query = samples_of a.query.now in
     let r = c.requires in
     let q = c.search_lists-both in
@@ -39,8 +38,8 @@ clear_work-requires c =
 pub clear_work-requires-2 : goal.clear_work-requires-2
 clear_work-requires-2 c =
     let a = c.args in
-    let ours = without_work a.control.now a.samples.now a.nodes.now a.links.now in
-    let theirs = without_work a.bench_control.now a.bench_samples.now a.bench_nodes.now a.bench_links.now in
+    let ours = stored_tables a.stored in
+    let theirs = stored_tables a.bench_stored in
     let query = samples_of a.query.now in
     let r = c.requires in
     let q = c.search_lists-both in
@@ -72,8 +71,8 @@ winner-won-requires c =
 pub overflow_add-result : goal.overflow_add-result
 overflow_add-result c =
     let a = c.args in
-    let ours = without_work a.control.now a.samples.now a.nodes.now a.links.now in
-    let theirs = without_work a.bench_control.now a.bench_samples.now a.bench_nodes.now a.bench_links.now in
+    let ours = stored_tables a.stored in
+    let theirs = stored_tables a.bench_stored in
     let query = samples_of a.query.now in
     let r = c.requires in
     let q = c.search_lists-both in
@@ -90,33 +89,19 @@ overflow_add-result c =
       );
     }
 
-pub shape_of-work : goal.shape_of-work
-shape_of-work c = c.clear_work.auto.work ∙ c.search_lists-both.auto.work
-
-pub shape_of-trail : goal.shape_of-trail
-shape_of-trail c = c.search_lists-both.auto.trail
-
-pub shape_of-bench_work : goal.shape_of-bench_work
-shape_of-bench_work c = c.clear_work-2.auto.work ∙ c.search_lists-both.auto.bench_work
-
-pub shape_of-bench_trail : goal.shape_of-bench_trail
-shape_of-bench_trail c = c.search_lists-both.auto.bench_trail
-
 pub returns : goal.returns
 returns c =
     let a = c.args in
-    let ours = without_work a.control.now a.samples.now a.nodes.now a.links.now in
-    let theirs = without_work a.bench_control.now a.bench_samples.now a.bench_nodes.now a.bench_links.now in
+    let ours = stored_tables a.stored in
+    let theirs = stored_tables a.bench_stored in
     let query = samples_of a.query.now in
     let r = c.requires in
     let q = c.search_lists-both in
     let v = q.ensures.both_visited in
     let within : q.result.factory.out ≤ length a.trail.now = omega (arith, v.factory.no_more, r.side_ready.0.trail_long) in
     let bench_within : q.result.bench.out ≤ length a.bench_trail.now = omega (arith, v.bench.no_more, r.bench.0.trail_long) in
-    let left = slices q.new.work q.new.trail q.new.list in
-    let bench_left = slices q.new.bench_work q.new.bench_trail q.new.bench_list in
     record {
-      found = joined ours theirs query _ left _ bench_left q.result.factory q.result.bench v (omega (arith, within, q.auto.trail))
+      found = joined ours theirs query _ q.new.trail _ q.new.list _ q.new.bench_trail _ q.new.bench_list q.result.factory q.result.bench v (omega (arith, within, q.auto.trail))
           (omega (arith, bench_within, q.auto.bench_trail)) c.winner-won.result c.winner-won.ensures;
       factory = record {
         within = within;

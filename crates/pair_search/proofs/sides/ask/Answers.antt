@@ -2,29 +2,12 @@
 use lib.ListN.{length}
 use Rattle.segment.specs.Stored.{samples_of}
 use Rattle.tables.specs.View.{shape_in}
-use Rattle.leaf_order.specs.Handed.{Handed}
-use Rattle.pair_search.proofs.Asking.{leaf_asked, end_asked}
+use Rattle.pair_search.proofs.Asking.{asked}
 use Rattle.pair_search.proofs.sides.ask.Goals as goal
 
-pub next_leaf-next-requires : goal.next_leaf-next-requires
-next_leaf-next-requires c = c.requires
-
-pub shape_of-work-in-Leaf : goal.shape_of-work-in-Leaf
-shape_of-work-in-Leaf c = c.next_leaf-next.auto.work
-
-pub returns-in-Leaf : goal.returns-in-Leaf
-unfolding Handed
-returns-in-Leaf c =
+pub returns-clause-asked : goal.returns-clause-asked
+returns-clause-asked c =
     let a = c.args in
-    leaf_asked (shape_in a.nodes.now (length a.work.now)) (samples_of a.query.now) a.limited a.limit a.side a.work.now c.next_leaf-next.new.work
-    c.in-Leaf.bound c.in-Leaf.number c.in-Leaf.left c.in-Leaf.ensures
-
-pub shape_of-work-in-End : goal.shape_of-work-in-End
-shape_of-work-in-End c = c.next_leaf-next.auto.work
-
-pub returns-in-End : goal.returns-in-End
-unfolding Handed
-returns-in-End c =
-    let a = c.args in
-    end_asked (shape_in a.nodes.now (length a.work.now)) (samples_of a.query.now) a.limited a.limit a.side a.work.now c.next_leaf-next.new.work
-    c.in-End.left c.in-End.ensures
+    let next = c.next_leaf-ahead in
+    asked (shape_in a.nodes.now (length a.heap.now.keys.now)) (samples_of a.query.now.trace.now) a.limit a.side a.heap.now next.new.heap next.result
+    next.ensures.handed

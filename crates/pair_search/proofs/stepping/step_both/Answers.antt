@@ -1,12 +1,10 @@
 -- `pair_search::stepping::step_both` meets its contract, way by way.
-use mathlib.Core.Path.{◌≡◌, refl, sym, ◌∙◌}
+use mathlib.Core.Path.{◌≡◌, refl, sym, ◌∙◌, ap}
 use mathlib.Core.Logic.{inl, inr}
-use Prim.Native.Nat.{ℕ}
-use Rattle.pair_search.specs.declared.limits.Limit.{Limit}
-use Rattle.pair_search.specs.declared.sides.Side.{Side}
-use Rattle.pair_search.specs.Turns.{turn_of}
+use Rattle.std.specs.Prelude.{Some, None}
+use Rattle.pair_search.specs.declared.turns.Whose.TheVariants.{Factory, Bench}
 use Rattle.pair_search.specs.Stepping.{slices, Reach, Stepping}
-use Rattle.pair_search.proofs.Whose.{factorys_turn, benchs_turn, bench_left}
+use Rattle.pair_search.proofs.Whose.{factorys_turn, benchs_turn}
 use Rattle.pair_search.proofs.stepping.step_both.Goals as goal
 
 pub limit_in-own-requires : goal.limit_in-own-requires
@@ -16,12 +14,12 @@ pub limit_in-other-requires : goal.limit_in-other-requires
 limit_in-other-requires c = (c.requires.1.few, c.requires.1.list_long)
 
 -- no leaf ahead is within the limit
-pub returns-then-whose-eq0 : goal.returns-then-whose-eq0
+pub returns-in_err-turn-clause-stepping : goal.returns-in_err-turn-clause-stepping
 unfolding Stepping
-returns-then-whose-eq0 c =
+returns-in_err-turn-clause-stepping c =
     let a = c.args in
-    let x = slices a.work.now a.trail.now a.list.now in
-    let y = slices a.bench_work.now a.bench_trail.now a.bench_list.now in
+    let x = slices a.heap.now a.trail.now a.list.now in
+    let y = slices a.bench_heap.now a.bench_trail.now a.bench_list.now in
     let reach : Reach x y a.factory a.bench = record {
       own = c.limit_in-own.result;
       other = c.limit_in-other.result;
@@ -30,30 +28,23 @@ returns-then-whose-eq0 c =
       other_is = c.limit_in-other.ensures;
       within_is = c.nearer_of-within.ensures;
     } in
-    record { reach = reach; turn_is = sym c.turn-whose.ensures ∙ c.if-whose-eq0.true; factory_stays = refl; bench_stays = refl }
+    let was : c.turn.result ≡ None = c.in_err-turn.was in
+    rw c.from_residual.ensures (record { reach = reach; turn_is = sym c.turn.ensures ∙ was; factory_stays = refl; bench_stays = refl })
 
 -- the factory's turn
 pub advance-next-requires : goal.advance-next-requires
 advance-next-requires c =
     let a = c.args in
-    let mine = factorys_turn a.factory a.bench c.nearer_of-within.result (sym c.turn-whose.ensures ∙ c.if-whose-eq1.true) in
-    (c.requires.0.may_read mine.0, c.requires.2, c.requires.0.long, c.requires.0.waits)
+    let was : c.turn.result ≡ Some Factory = c.in_ok-turn.was ∙ ap Some c.in-Factory.is in
+    let mine = factorys_turn a.factory a.bench c.nearer_of-within.result (sym c.turn.ensures ∙ was) in
+    (c.requires.0.may_read mine.0, c.requires.0.long, c.requires.0.waits)
 
-pub shape_of-work-then-whose-eq1 : goal.shape_of-work-then-whose-eq1
-shape_of-work-then-whose-eq1 c = c.advance-next.auto.work
-
-pub shape_of-trail-then-whose-eq1 : goal.shape_of-trail-then-whose-eq1
-shape_of-trail-then-whose-eq1 c = c.advance-next.auto.trail
-
-pub shape_of-list-then-whose-eq1 : goal.shape_of-list-then-whose-eq1
-shape_of-list-then-whose-eq1 c = c.advance-next.auto.list
-
-pub returns-then-whose-eq1 : goal.returns-then-whose-eq1
+pub returns-in-Factory-clause-stepping : goal.returns-in-Factory-clause-stepping
 unfolding Stepping
-returns-then-whose-eq1 c =
+returns-in-Factory-clause-stepping c =
     let a = c.args in
-    let x = slices a.work.now a.trail.now a.list.now in
-    let y = slices a.bench_work.now a.bench_trail.now a.bench_list.now in
+    let x = slices a.heap.now a.trail.now a.list.now in
+    let y = slices a.bench_heap.now a.bench_trail.now a.bench_list.now in
     let reach : Reach x y a.factory a.bench = record {
       own = c.limit_in-own.result;
       other = c.limit_in-other.result;
@@ -62,39 +53,28 @@ returns-then-whose-eq1 c =
       other_is = c.limit_in-other.ensures;
       within_is = c.nearer_of-within.ensures;
     } in
+    let was : c.turn.result ≡ Some Factory = c.in_ok-turn.was ∙ ap Some c.in-Factory.is in
     inl (record {
       reach = reach;
-      turn_is = sym c.turn-whose.ensures ∙ c.if-whose-eq1.true;
-      advanced = c.advance-next.ensures;
+      turn_is = sym c.turn.ensures ∙ was;
+      advanced = c.advance-next.ensures.advanced;
       bench_stays = (refl, refl);
     })
 
 -- the bench's
-is_two : (f b : Side) (within : Limit) {whose : ℕ} → whose ≡ turn_of f b within → (whose ≡ 0 → ⊥) → (whose ≡ 1 → ⊥) → turn_of f b within ≡ 2
-is_two f b within is zero one = bench_left f b within (λ q. zero (is ∙ q)) (λ q. one (is ∙ q))
-
-pub advance-next-requires-2 : goal.advance-next-requires-2
-advance-next-requires-2 c =
+pub advance-next-requires-in-Bench : goal.advance-next-requires-in-Bench
+advance-next-requires-in-Bench c =
     let a = c.args in
-    let two = is_two a.factory a.bench c.nearer_of-within.result c.turn-whose.ensures c.if-whose-eq0.false c.if-whose-eq1.false in
-    let mine = benchs_turn a.factory a.bench c.nearer_of-within.result two in
-    (c.requires.1.may_read mine.0, c.requires.2, c.requires.1.long, c.requires.1.waits)
+    let was : c.turn.result ≡ Some Bench = c.in_ok-turn.was ∙ ap Some c.in-Bench.is in
+    let mine = benchs_turn a.factory a.bench c.nearer_of-within.result (sym c.turn.ensures ∙ was) in
+    (c.requires.1.may_read mine.0, c.requires.1.long, c.requires.1.waits)
 
-pub shape_of-bench_work : goal.shape_of-bench_work
-shape_of-bench_work c = c.advance-next-2.auto.work
-
-pub shape_of-bench_trail : goal.shape_of-bench_trail
-shape_of-bench_trail c = c.advance-next-2.auto.trail
-
-pub shape_of-bench_list : goal.shape_of-bench_list
-shape_of-bench_list c = c.advance-next-2.auto.list
-
-pub returns : goal.returns
+pub returns-in-Bench-clause-stepping : goal.returns-in-Bench-clause-stepping
 unfolding Stepping
-returns c =
+returns-in-Bench-clause-stepping c =
     let a = c.args in
-    let x = slices a.work.now a.trail.now a.list.now in
-    let y = slices a.bench_work.now a.bench_trail.now a.bench_list.now in
+    let x = slices a.heap.now a.trail.now a.list.now in
+    let y = slices a.bench_heap.now a.bench_trail.now a.bench_list.now in
     let reach : Reach x y a.factory a.bench = record {
       own = c.limit_in-own.result;
       other = c.limit_in-other.result;
@@ -103,9 +83,10 @@ returns c =
       other_is = c.limit_in-other.ensures;
       within_is = c.nearer_of-within.ensures;
     } in
+    let was : c.turn.result ≡ Some Bench = c.in_ok-turn.was ∙ ap Some c.in-Bench.is in
     inr (record {
       reach = reach;
-      turn_is = is_two a.factory a.bench c.nearer_of-within.result c.turn-whose.ensures c.if-whose-eq0.false c.if-whose-eq1.false;
-      advanced = c.advance-next-2.ensures;
+      turn_is = sym c.turn.ensures ∙ was;
+      advanced = c.advance-next-in-Bench.ensures.advanced;
       factory_stays = (refl, refl);
     })

@@ -1,10 +1,8 @@
 -- `pairing::judging::judge` meets its contract: the factory's tables are judged first, then the bench's, then both together.
-use mathlib.Core.Path.{◌≡◌, sym, ap, ◌∙◌}
-use mathlib.Core.Option.{none}
-use Rattle.dstree.specs.Refusals.{first_of}
-use Rattle.tables.specs.Tables.{labelled_tables}
-use Rattle.tables.specs.Answers.{found_by, made_conditions}
-use Rattle.tables.specs.declared.Verdict.TheVariants as v
+use mathlib.Core.Path.{sym, ◌∙◌}
+use Rattle.tables.specs.Shared.{tables_lent}
+use Rattle.tables.specs.Answers.{found_by}
+use Rattle.tables.proofs.Passed.{passed}
 use Rattle.query_judging.proofs.Taken.{records_fit}
 use Rattle.pairing.proofs.Conditions.{factory_refused, bench_refused, own_decides}
 use Rattle.pairing.proofs.judging.judge.Goals as goal
@@ -12,38 +10,26 @@ use Rattle.pairing.proofs.judging.judge.Goals as goal
 pub judge_own-requires : goal.judge_own-requires
 unfolding found_by
 judge_own-requires c =
-    let a = c.args in
-    let F = labelled_tables a.control.now a.samples.now a.nodes.now a.links.now a.work.now a.labels.now in
-    let B = labelled_tables a.bench_control.now a.bench_samples.now a.bench_nodes.now a.bench_links.now a.bench_work.now a.bench_labels.now in
-    let f = records_fit F (sym c.judge_tables-made.ensures ∙ ap found_by c.in-Fine.is) in
-    let b = records_fit B (sym c.judge_tables-bench_made.ensures ∙ ap found_by c.in-Fine-bench_made.is) in
+    let f = records_fit (tables_lent c.args.factory) (sym c.in_ok-judge_tables.ensures) in
+    let b = records_fit (tables_lent c.args.bench) (sym c.in_ok-judge_tables-2.ensures) in
     (f.0, f.1, b.0, b.1)
 
-pub returns-in-Refused : goal.returns-in-Refused
-returns-in-Refused c =
+pub returns-in_err-judge_tables : goal.returns-in_err-judge_tables
+returns-in_err-judge_tables c =
     let a = c.args in
-    let F = labelled_tables a.control.now a.samples.now a.nodes.now a.links.now a.work.now a.labels.now in
-    let B = labelled_tables a.bench_control.now a.bench_samples.now a.bench_nodes.now a.bench_links.now a.bench_work.now a.bench_labels.now in
-    factory_refused F B a.query.now a.trail.now a.bench_trail.now _
-    (sym c.judge_tables-made.ensures ∙ ap found_by c.in-Refused.is)
+    rw (passed c.from_residual.result _ c.from_residual.ensures.1)
+    (factory_refused (tables_lent a.factory) (tables_lent a.bench) a.query.now a.trail.now a.bench_trail.now _ c.in_err-judge_tables.ensures)
 
-pub returns-in-Refused-bench_made : goal.returns-in-Refused-bench_made
+pub returns-in_err-judge_tables-2 : goal.returns-in_err-judge_tables-2
 unfolding found_by
-returns-in-Refused-bench_made c =
+returns-in_err-judge_tables-2 c =
     let a = c.args in
-    let F = labelled_tables a.control.now a.samples.now a.nodes.now a.links.now a.work.now a.labels.now in
-    let B = labelled_tables a.bench_control.now a.bench_samples.now a.bench_nodes.now a.bench_links.now a.bench_work.now a.bench_labels.now in
-    let fine : first_of (made_conditions F) ≡ none = sym c.judge_tables-made.ensures ∙ ap found_by c.in-Fine.is in
-    let refused : first_of (made_conditions B) ≡ found_by (v.Refused c.in-Refused-bench_made.why) =
-    sym c.judge_tables-bench_made.ensures ∙ ap found_by c.in-Refused-bench_made.is in
-    bench_refused F B a.query.now a.trail.now a.bench_trail.now fine _ refused
+    rw (passed c.from_residual-in_err-judge_tables-2.result _ c.from_residual-in_err-judge_tables-2.ensures.1)
+    (bench_refused (tables_lent a.factory) (tables_lent a.bench) a.query.now a.trail.now a.bench_trail.now (sym c.in_ok-judge_tables.ensures) _ c.in_err-judge_tables-2.ensures)
 
-pub returns-in-Fine-bench_made : goal.returns-in-Fine-bench_made
+pub returns : goal.returns
 unfolding found_by
-returns-in-Fine-bench_made c =
+returns c =
     let a = c.args in
-    let F = labelled_tables a.control.now a.samples.now a.nodes.now a.links.now a.work.now a.labels.now in
-    let B = labelled_tables a.bench_control.now a.bench_samples.now a.bench_nodes.now a.bench_links.now a.bench_work.now a.bench_labels.now in
     c.judge_own.ensures
-    ∙ sym (own_decides F B a.query.now a.trail.now a.bench_trail.now (sym c.judge_tables-made.ensures ∙ ap found_by c.in-Fine.is)
-    (sym c.judge_tables-bench_made.ensures ∙ ap found_by c.in-Fine-bench_made.is))
+    ∙ sym (own_decides (tables_lent a.factory) (tables_lent a.bench) a.query.now a.trail.now a.bench_trail.now (sym c.in_ok-judge_tables.ensures) (sym c.in_ok-judge_tables-2.ensures))

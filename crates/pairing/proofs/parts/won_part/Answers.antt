@@ -4,12 +4,12 @@ use Rattle.pairing.proofs.parts.won_part.Goals as goal
 
 pub returns-in-Factory : goal.returns-in-Factory
 unfolding part_by
-returns-in-Factory c = rw c.in-Factory.is c.stored_part.ensures
+returns-in-Factory c = rw (c.in-Ok.is, c.in-Factory.is) c.stored_part.ensures
 
 pub returns-in-Bench : goal.returns-in-Bench
 unfolding part_by
-returns-in-Bench c = rw c.in-Bench.is c.stored_part-in-Bench.ensures
+returns-in-Bench c = rw (c.in-Ok.is, c.in-Bench.is) c.stored_part-in-Bench.ensures
 
-pub returns-in-Refused : goal.returns-in-Refused
+pub returns-in-Err : goal.returns-in-Err
 unfolding part_by
-returns-in-Refused c = rw c.in-Refused.is
+returns-in-Err c = rw c.in-Err.is

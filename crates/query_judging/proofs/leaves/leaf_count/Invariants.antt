@@ -5,7 +5,4 @@ use Rattle.query_judging.specs.LeafCount.{leaf_count}
 use Rattle.query_judging.proofs.leaves.leaf_count.Given as goal
 
 abbrev pub invariant-loop-j : goal.invariant-loop-j
-invariant-loop-j l = (l.j ≤ l.m) × (l.total ≤ l.j) × (l.total + leaf_count l.nodes (l.m - l.j) l.j ≡ leaf_count l.nodes l.m 0)
-
-abbrev pub decreases-loop-j : goal.decreases-loop-j
-decreases-loop-j l = l.m - l.j
+invariant-loop-j l = (l.total ≤ l.j) × (l.total + leaf_count l.nodes (l.m - l.j) l.j ≡ leaf_count l.nodes l.m 0)

@@ -74,9 +74,6 @@ loop-t-preserved c =
       ),
     )
 
-pub shape_of-list : goal.shape_of-list
-shape_of-list c = c.loop-t.invariant.2.long
-
 pub returns : goal.returns
 returns c =
     let a = c.args in

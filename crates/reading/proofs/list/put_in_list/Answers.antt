@@ -10,9 +10,6 @@ insert-requires c = (omega (arith, c.requires.long, c.if-listed-k.true), c.requi
 pub overflow_add-result : goal.overflow_add-result
 overflow_add-result c = omega (arith, c.if-listed-k.true, c.ranges.k)
 
-pub shape_of-list-then-listed-k : goal.shape_of-list-then-listed-k
-shape_of-list-then-listed-k c = c.insert.auto.list
-
 pub returns-then-listed-k : goal.returns-then-listed-k
 returns-then-listed-k c =
     let a = c.args in
@@ -42,9 +39,6 @@ insert-requires-2 c =
       ordered_ahead a.k a.listed a.trace a.distance a.list.now c.requires
           c.if-listed-k.false,
     )
-
-pub shape_of-list : goal.shape_of-list
-shape_of-list c = c.insert-2.auto.list
 
 pub returns : goal.returns
 returns c =

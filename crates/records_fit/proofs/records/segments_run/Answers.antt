@@ -37,7 +37,7 @@ pub returns-then-not-end_behind : goal.returns-then-not-end_behind
 returns-then-not-end_behind c =
     let a = c.args in
     let l = c.loop-i in
-    falls a.places.now a.count a.n l.i l.before (omega arith) l.invariant.2 (cc)
+    falls a.places.now a.count a.n l.i l.before (omega arith) l.invariant.1 (cc)
 
 pub returns-then-not-segment_fits : goal.returns-then-not-segment_fits
 returns-then-not-segment_fits c =
@@ -45,7 +45,7 @@ returns-then-not-segment_fits c =
     let l = c.loop-i in
     let found = sym c.end_at-end.ensures in
     let inside = between_yes l.before a.n (segment_in a.places.now l.i).end (cc) in
-    outside a.places.now a.count a.n l.i l.before (omega arith) l.invariant.2 inside.0 (cc)
+    outside a.places.now a.count a.n l.i l.before (omega arith) l.invariant.1 inside.0 (cc)
 
 pub loop-i-preserved : goal.loop-i-preserved
 loop-i-preserved c =
@@ -53,13 +53,12 @@ loop-i-preserved c =
     let l = c.loop-i in
     let found = sym c.end_at-end.ensures in
     let inside = between_yes l.before a.n (segment_in a.places.now l.i).end (cc) in (
-      omega arith,
       omega (arith, found, inside.1),
-      rw (← found) (next a.places.now a.count a.n l.i l.before (omega arith) l.invariant.2 inside.0 (cc)),
+      rw (← found) (next a.places.now a.count a.n l.i l.before (omega arith) l.invariant.1 inside.0 (cc)),
     )
 
 pub returns : goal.returns
 returns c =
     let l = c.loop-i in
     let a = c.args in
-    sym (sym l.invariant.2 ∙ (ap (λ (rest : List Segment). rest_holds a.n l.before rest) (from_none a.places.now a.count l.i (omega arith)) ∙ rest_done a.n l.before))
+    sym (sym l.invariant.1 ∙ (ap (λ (rest : List Segment). rest_holds a.n l.before rest) (from_none a.places.now a.count l.i (omega arith)) ∙ rest_done a.n l.before))

@@ -6,7 +6,4 @@ use Rattle.records_fit.specs.Fits.{segments_in_from, rest_holds}
 use Rattle.records_fit.proofs.records.segments_run.Given as goal
 
 abbrev pub invariant-loop-i : goal.invariant-loop-i
-invariant-loop-i l = (l.i ≤ l.count) × (l.before ≤ l.n) × (rest_holds l.n l.before (segments_in_from l.places (l.count - l.i) l.i) ≡ rest_holds l.n 0 (segments_in_from l.places l.count 0))
-
-abbrev pub decreases-loop-i : goal.decreases-loop-i
-decreases-loop-i l = l.count - l.i
+invariant-loop-i l = (l.before ≤ l.n) × (rest_holds l.n l.before (segments_in_from l.places (l.count - l.i) l.i) ≡ rest_holds l.n 0 (segments_in_from l.places l.count 0))

@@ -1,42 +1,45 @@
 -- `replay::plans::plan` meets its contract: the tables, the kind, and what is ahead.
-use mathlib.Core.Path.{sym, ap, ◌∙◌}
+use Rattle.std.specs.Prelude.{Option, None, Some, if◌then◌else◌}
+use Prim.Native.Nat.{◌-◌}
+use mathlib.Core.Bool.{Bool, true, false}
+use mathlib.Core.Path.{◌≡◌, sym, ap, ◌∙◌}
 use native.Mathlib.Omega.{arith}
-use borrow.Author.Tests.{not-true, not-false}
-use Rattle.replay.specs.declared.Plan.{Plan}
-use Rattle.replay.specs.Script.{lengths_by, planned_by}
-use Rattle.replay.proofs.Asking.{enough_is, wanted_some, wanted_none, not_lent, no_kind, too_few, goes}
+use Rattle.dstree.specs.Book.{Lent}
+use Rattle.tables.specs.Judge.{lengths_by}
+use Rattle.replay.specs.declared.Amounts.{Amounts}
+use Rattle.replay.specs.Script.{amounts, CallKind, kind_by, kinds, call_kind_at, kind_found, fits_in, enough, if_enough, moved}
+use Rattle.replay.proofs.Asking.{enough_is, not_lent, is_lent}
 use Rattle.replay.proofs.plans.plan.Goals as goal
+
+abbrev left : Amounts → Amounts → Amounts
+left all at = amounts (all.samples - at.samples) (all.trails - at.trails) (all.sheets - at.sheets)
+
+abbrev if_so : CallKind → Bool → Option CallKind
+if_so k b = if b then Some k else None
 
 pub returns-then-not-fits : goal.returns-then-not-fits
 returns-then-not-fits c =
-    let a = c.args in
-    ap (λ (r : Plan). planned_by r) c.not_played.ensures
-    ∙ not_lent (lengths_by a.lent) _ a.row.now a.at _ c.lengths.ensures
-    (sym c.fits.ensures ∙ c.if-not-fits.true)
+    let lengths = lengths_by c.args.lent in
+    not_lent lengths _ c.args.row.now
+    (ap (λ (l : Lent). fits_in l lengths) (sym c.lengths.ensures) ∙ (sym c.fits.ensures ∙ c.if-not-fits.true))
 
-pub returns-then-not-wanted : goal.returns-then-not-wanted
-returns-then-not-wanted c =
-    let a = c.args in
-    ap (λ (r : Plan). planned_by r) c.not_played-then-not-wanted.ensures
-    ∙ no_kind (lengths_by a.lent) _ a.row.now a.at _ c.lengths.ensures (sym c.fits.ensures ∙ c.if-not-fits.false)
-    (sym c.wanted-wanted.ensures ∙ wanted_none c.wanted-wanted.result (not-true _ c.if-not-wanted.true))
-
-pub overflow_sub-all : goal.overflow_sub-all
-overflow_sub-all c = omega (arith, c.requires.0)
-
-pub overflow_sub-all-2 : goal.overflow_sub-all-2
-overflow_sub-all-2 c = omega (arith, c.requires.1)
-
-pub overflow_sub-all-3 : goal.overflow_sub-all-3
-overflow_sub-all-3 c = omega (arith, c.requires.2)
+pub returns-in_default : goal.returns-in_default
+unfolding kind_found if_enough
+returns-in_default c =
+    let lengths = lengths_by c.args.lent in
+    let fit = ap (λ (l : Lent). fits_in l lengths) (sym c.lengths.ensures) ∙ (sym c.fits.ensures ∙ c.if-not-fits.false) in
+    is_lent lengths (left c.args.all c.args.at) c.args.row.now fit None (c.in_default.ensures ∙ ap (call_kind_at kinds) c.number_at.ensures)
 
 pub returns-then-not-is_enough : goal.returns-then-not-is_enough
+unfolding kind_found if_enough
 returns-then-not-is_enough c =
-    let a = c.args in
-    ap (λ (r : Plan). planned_by r) c.not_played-then-not-is_enough.ensures
-    ∙ too_few (lengths_by a.lent) _ a.row.now a.at _ c.lengths.ensures (sym c.fits.ensures ∙ c.if-not-fits.false)
-    c.wanted-wanted.result.size (sym c.wanted-wanted.ensures ∙ wanted_some c.wanted-wanted.result (not-false _ c.if-not-wanted.false))
-    (sym c.is_enough.ensures ∙ c.if-not-is_enough.true)
+    let lengths = lengths_by c.args.lent in
+    let ahead = left c.args.all c.args.at in
+    let k = kind_by c.in-Ok.kind in
+    let fit = ap (λ (l : Lent). fits_in l lengths) (sym c.lengths.ensures) ∙ (sym c.fits.ensures ∙ c.if-not-fits.false) in
+    let few : enough (k.takes c.args.row.now) ahead ≡ false = ap (λ (z : Amounts). enough z ahead) (sym c.wanted-size.ensures)
+    ∙ (sym c.is_enough.ensures ∙ c.if-not-is_enough.true) in
+    is_lent lengths ahead c.args.row.now fit (Some k) (c.in-Ok.ensures ∙ ap (call_kind_at kinds) c.number_at.ensures) ∙ ap (if_so k) few
 
 pub overflow_add-result : goal.overflow_add-result
 overflow_add-result c = omega (arith, (enough_is _ _ (sym c.is_enough.ensures ∙ c.if-not-is_enough.false)).0)
@@ -48,8 +51,15 @@ pub overflow_add-result-3 : goal.overflow_add-result-3
 overflow_add-result-3 c = omega (arith, (enough_is _ _ (sym c.is_enough.ensures ∙ c.if-not-is_enough.false)).2)
 
 pub returns : goal.returns
+unfolding kind_found if_enough
 returns c =
-    let a = c.args in
-    goes (lengths_by a.lent) _ a.row.now a.at _ c.lengths.ensures (sym c.fits.ensures ∙ c.if-not-fits.false)
-    c.wanted-wanted.result.size (sym c.wanted-wanted.ensures ∙ wanted_some c.wanted-wanted.result (not-false _ c.if-not-wanted.false))
-    (sym c.is_enough.ensures ∙ c.if-not-is_enough.false)
+    let lengths = lengths_by c.args.lent in
+    let ahead = left c.args.all c.args.at in
+    let k = kind_by c.in-Ok.kind in
+    let fit = ap (λ (l : Lent). fits_in l lengths) (sym c.lengths.ensures) ∙ (sym c.fits.ensures ∙ c.if-not-fits.false) in
+    let there : enough (k.takes c.args.row.now) ahead ≡ true = ap (λ (z : Amounts). enough z ahead) (sym c.wanted-size.ensures)
+    ∙ (sym c.is_enough.ensures ∙ c.if-not-is_enough.false) in
+    record {
+      can = is_lent lengths ahead c.args.row.now fit (Some k) (c.in-Ok.ensures ∙ ap (call_kind_at kinds) c.number_at.ensures) ∙ ap (if_so k) there;
+      to_is = ap (λ (z : Amounts). moved c.args.at z) c.wanted-size.ensures;
+    }

@@ -1,5 +1,5 @@
 -- `search::searching::search_first` meets its contract: the loop's, and the needed search work is set to zero behind it (`Cleared`).
-use mathlib.Core.Path.{◌≡◌, refl, sym, ap, ◌∙◌, subst}
+use mathlib.Core.Path.{◌≡◌, sym, ap, ◌∙◌, subst}
 use mathlib.Core.List.{List, ◌++◌}
 use Prim.Native.Nat.{ℕ, ◌≤◌}
 use native.Mathlib.Omega.{arith}
@@ -9,7 +9,8 @@ use Rattle.segment.specs.Stored.{samples_of}
 use Rattle.segment.proofs.Stored.{samples_length}
 use Rattle.dstree.specs.Measures.{Trace, measures, records_needed, work_needed}
 use Rattle.tables.specs.Tables.{Tables, measures_of, node_count, filled}
-use Rattle.search.specs.Searched.{without_work, Ready}
+use Rattle.search.specs.Lent.{stored_tables}
+use Rattle.search.specs.Searched.{Ready}
 use Rattle.search.proofs.Facts.{length_fits, capacity_fits, nodes_needed}
 use Rattle.search.proofs.Cleared.{as_many, cleared}
 use Rattle.search.proofs.searching.search_first.Goals as goal
@@ -26,10 +27,10 @@ module _ {t : Tables} {query : Trace} {size : ℕ} (ready : Ready t query size) 
       let long : length part ≡ count = e ∙ length-take-le count work count_fits in
       subst (λ (n : ℕ). drop n (part ++ drop count work) ≡ drop n work) count_is (drop_at part (drop count work) count long)
 
-pub prefix_sums-requires : goal.prefix_sums-requires
-prefix_sums-requires c =
+pub of-summed-requires : goal.of-summed-requires
+of-summed-requires c =
     let few = length_fits _ (samples_of c.args.query.now) (length c.args.trail.now) c.requires.ready.0 in
-    (omega (arith, few, samples_length c.args.query.now), refl, refl)
+    omega (arith, few, samples_length c.args.query.now)
 
 pub slice_bounds-visit_first-end : goal.slice_bounds-visit_first-end
 slice_bounds-visit_first-end c = count_fits c.requires.ready.0 c.args.work.now c.requires.ready.1 (c.wide-count.ensures ∙ c.field.ensures)
@@ -43,8 +44,7 @@ visit_first-seen-requires c =
     let count_is = c.wide-count.ensures ∙ c.field.ensures in
     record {
       ready = (
-        c.requires.ready.0,
-        c.prefix_sums.ensures,
+        rw c.of-summed.ensures c.requires.ready.0,
         length-take-le c.wide-count.result c.args.work.now (count_fits c.requires.ready.0 c.args.work.now c.requires.ready.1 count_is) ∙ count_is,
       );
       list = c.requires.list;
@@ -67,28 +67,24 @@ needed_is t capacity_is ensures =
     let m = measures_of t in
     ensures m.n m.leaf_size ∙ (ap (λ (i : ℕ). records_needed (measures m.n i m.leaf_size)) capacity_is ∙ as_many m)
 
-pub zero_work-requires : goal.zero_work-requires
-zero_work-requires c =
-    let t = without_work c.args.control.now c.args.samples.now c.args.nodes.now c.args.links.now in
+pub fill_first-requires : goal.fill_first-requires
+fill_first-requires c =
+    let t = stored_tables c.args.stored in
     let needed = needed_is t (c.wider-capacity.ensures ∙ c.field-2.ensures) c.records_needed-needed.ensures in
     let h : c.records_needed-needed.result ≤ length (c.visit_first-seen.new.work ++ drop c.wide-count.result c.args.work.now) =
     omega (arith, needed, c.requires.ready.1, length_front c.args.work.now c.visit_first-seen.new.work c.wide-count.result c.visit_first-seen.auto.work) in
     h
-
-pub shape_of-work : goal.shape_of-work
-shape_of-work c =
-    c.zero_work.auto.work ∙ length_front c.args.work.now c.visit_first-seen.new.work c.wide-count.result c.visit_first-seen.auto.work
 
 pub returns : goal.returns
 returns c =
     let a = c.args in
     let v = c.visit_first-seen in
     let r = v.result in
-    let t = without_work a.control.now a.samples.now a.nodes.now a.links.now in
+    let t = stored_tables a.stored in
     let ready = c.requires.ready.0 in
     let whole = v.new.work ++ drop c.wide-count.result a.work.now in
     let needed = needed_is t (c.wider-capacity.ensures ∙ c.field-2.ensures) c.records_needed-needed.ensures in
-    cleared a.k a.most t (samples_of a.query.now) (length a.trail.now) ready a.work.now whole c.zero_work.new.work a.trail.now v.new.trail a.list.now
-    v.new.list r.listed r.out r.traces r.unread r.bound v.ensures
+    cleared a.k a.most t (samples_of a.query.now) (length a.trail.now) ready a.work.now whole c.fill_first.new.table a.trail.now v.new.trail a.list.now
+    v.new.list r.listed r.out r.traces r.unread (rw c.of-summed.ensures at v.ensures)
     (behind ready a.work.now c.requires.ready.1 (c.wide-count.ensures ∙ c.field.ensures) v.new.work v.auto.work)
-    (c.zero_work.ensures ∙ ap (λ (i : ℕ). filled i 0 whole) needed)
+    (c.fill_first.ensures ∙ ap (λ (i : ℕ). filled i 0 whole) needed)

@@ -7,6 +7,3 @@ use Rattle.segment.proofs.figures.stretch_distance.Given as goal
 abbrev pub invariant-loop-i : goal.invariant-loop-i
 invariant-loop-i l =
     (l.from ≤ l.i) × (l.i ≤ l.end) × (words_distance_to l.x l.y l.from + l.total ≡ words_distance_to l.x l.y l.i) × (l.total ≤ 2 ^ 40 * (l.i - l.from))
-
-abbrev pub decreases-loop-i : goal.decreases-loop-i
-decreases-loop-i l = l.end - l.i

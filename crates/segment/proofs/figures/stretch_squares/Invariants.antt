@@ -7,6 +7,3 @@ use Rattle.segment.proofs.figures.stretch_squares.Given as goal
 abbrev pub invariant-loop-i : goal.invariant-loop-i
 invariant-loop-i l =
     (l.from ≤ l.i) × (l.i ≤ l.end) × (squares_to l.samples l.from + l.total ≡ squares_to l.samples l.i) × (l.total ≤ 2 ^ 38 * (l.i - l.from))
-
-abbrev pub decreases-loop-i : goal.decreases-loop-i
-decreases-loop-i l = l.end - l.i

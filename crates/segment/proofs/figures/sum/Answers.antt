@@ -60,30 +60,30 @@ little c = rw (to_z-of_z (of_mag {w = w32} c.sample_of-total.result c.sample_of-
 -- what is added
 value : (c : goal.After-sample_of-total)
     → read w32 c.sample_of-total.result
-    ≡ get_or (samples_of c.args.samples.now) c.loop-i.i (pos 0)
+    ≡ get_or (samples_of c.args.samples.now) c.loop-word.word-index (pos 0)
 value c =
-    let l = c.loop-i in
+    let l = c.loop-word in
     to_z-of_z (of_mag {w = w32} c.sample_of-total.result c.sample_of-total.type_inv) ∙ c.sample_of-total.ensures.value
-    ∙ read_word c.args.samples.now l.i c.sample_of-arg-1.given
+    ∙ read_word c.args.samples.now l.word-index c.sample_of-arg-1.given
 
-pub loop-i-init : goal.loop-i-init
+pub loop-word-init : goal.loop-word-init
 unfolding sum
-loop-i-init c = (omega arith, refl, λ i h. omega arith)
+loop-word-init c = (omega arith, refl, λ i h. omega arith)
 
 pub overflow_add-total : goal.overflow_add-total
 overflow_add-total c =
-    let l = c.loop-i in
-    added_fits c.args.samples.now c.requires (to_z w32 l.total-bits) l.i l.invariant c.loop-i-test.true
+    let l = c.loop-word in
+    added_fits c.args.samples.now c.requires (to_z w32 l.total-bits) l.word-index l.invariant c.loop-word-test.true
     (read w32 c.sample_of-total.result) (value c) (little c)
 
-pub loop-i-preserved : goal.loop-i-preserved
-loop-i-preserved c =
-    let l = c.loop-i in
-    more c.args.samples.now c.requires (to_z w32 l.total-bits) l.i l.invariant c.loop-i-test.true
+pub loop-word-preserved : goal.loop-word-preserved
+loop-word-preserved c =
+    let l = c.loop-word in
+    more c.args.samples.now c.requires (to_z w32 l.total-bits) l.word-index l.invariant c.loop-word-test.true
     (read w32 c.sample_of-total.result) (value c) (little c)
 
 pub returns : goal.returns
 returns c =
-    let l = c.loop-i in
-    let r = all c.args.samples.now c.requires (to_z w32 l.total-bits) l.i l.invariant c.loop-i-test.false in
-    record { value = r.0; size = r.1 }
+    let l = c.loop-word in
+    let r = all c.args.samples.now c.requires (to_z w32 l.total-bits) l.word-index l.invariant c.loop-word-test.false in
+    rw c.from.ensures (record { value = r.0; size = r.1 })

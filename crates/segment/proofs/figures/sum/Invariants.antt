@@ -1,7 +1,7 @@
 -- `segment::figures::sum` meets its contract: the total is the sum of the samples passed, which 32 bits hold.
 use mathlib.Core.Path.{◌≡◌}
 use mathlib.Core.List.{List}
-use Prim.Native.Nat.{ℕ, ◌-◌, ◌≤◌}
+use Prim.Native.Nat.{ℕ, ◌≤◌}
 use lib.ListN.{length, take}
 use lib.IntN.{ℤ}
 use Rattle.segment.specs.Figures.{sum}
@@ -14,8 +14,5 @@ abbrev pub Passed : List ℤ → ℤ → ℕ → Type 0
 Passed words total i =
     (i ≤ length words) × (total ≡ sum (take i (samples_of words))) × SamplesWithin sample_most (take i (samples_of words))
 
-abbrev pub invariant-loop-i : goal.invariant-loop-i
-invariant-loop-i l = Passed l.samples l.total l.i
-
-abbrev pub decreases-loop-i : goal.decreases-loop-i
-decreases-loop-i l = length l.samples - l.i
+abbrev pub invariant-loop-word : goal.invariant-loop-word
+invariant-loop-word l = Passed l.samples l.total l.word-index

@@ -35,10 +35,10 @@ ordered u least greatest h = by (dec_lt u least) (dec_lt greatest u)
 
 pub returns-then-greatest-least : goal.returns-then-greatest-least
 unfolding scatter_gap
-returns-then-greatest-least c = c.larger.ensures ∙ ap₂ max c.root_excess.ensures c.root_excess-then-greatest-least.ensures
+returns-then-greatest-least c = c.max.ensures ∙ ap₂ max c.root_excess.ensures c.root_excess-then-greatest-least.ensures
 
 pub returns : goal.returns
 returns c =
     c.root_excess-2.ensures
-    ∙ ap₂ (λ (a b : ℕ). floor_root a - ceiling_root b) c.larger-2.ensures c.lesser.ensures
+    ∙ ap₂ (λ (a b : ℕ). floor_root a - ceiling_root b) c.max-2.ensures c.min.ensures
     ∙ ordered c.args.u c.args.least c.args.greatest (omega arith)

@@ -23,9 +23,6 @@ sum_gap_most : (c : goal.After-scatter_gap-h) → c.sum_gap-g.result ≤ 2 * sum
 sum_gap_most c =
     omega (arith, sum_gap_is c, sum_gap_limit c.args.t c.args.least_sum c.args.greatest_sum (2 * sum_room) (omega arith) (omega arith))
 
-pub sum_gap-g-requires : goal.sum_gap-g-requires
-sum_gap-g-requires c = rw (to_z-of_z c.ranges.t, to_z-of_z c.ranges.least_sum, to_z-of_z c.ranges.greatest_sum) (omega arith, omega arith, omega arith)
-
 pub bound_term-requires : goal.bound_term-requires
 bound_term-requires c = (omega arith, omega arith, omega (arith, sum_gap_most c), omega (arith, scatter_gap_most c))
 

@@ -22,9 +22,6 @@ reach_most : (c : goal.After-scatter_reach-h) → c.sum_reach-g.result ≤ 2 * s
 reach_most c =
     omega (arith, reach_is c, reach_limit c.args.t c.args.least_sum c.args.greatest_sum sum_room c.requires.2 c.requires.3 c.requires.4)
 
-pub sum_reach-g-requires : goal.sum_reach-g-requires
-sum_reach-g-requires c = rw (to_z-of_z c.ranges.t, to_z-of_z c.ranges.least_sum, to_z-of_z c.ranges.greatest_sum) (omega arith, omega arith, omega arith)
-
 pub upper_term-requires : goal.upper_term-requires
 upper_term-requires c = (omega arith, omega arith, omega (arith, reach_most c), omega (arith, roots_most c))
 

@@ -14,7 +14,7 @@ one_number t x = point_gap x t ∙ apart_turned t x
 pub returns : goal.returns
 unfolding sum_reach
 returns c =
-    c.larger.ensures
+    c.max.ensures
     ∙ ap₂ max
     (c.sum_gap.ensures ∙ rw (to_z-of_z c.ranges.t, to_z-of_z c.ranges.least) (one_number c.args.t c.args.least))
     (c.sum_gap-2.ensures ∙ rw (to_z-of_z c.ranges.t, to_z-of_z c.ranges.greatest) (one_number c.args.t c.args.greatest))

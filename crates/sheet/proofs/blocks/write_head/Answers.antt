@@ -6,8 +6,10 @@ use native.Mathlib.Omega.{arith}
 use lib.ListN.{take}
 use lib.Seq.{sets}
 use Rattle.dstree.specs.Measures.{measures}
-use Rattle.dstree.specs.Sheet.{checked_size, letters, measure_bytes, head_of, sealed, block}
+use Rattle.dstree.specs.Sheet.{checked_size, letters, measure_bytes, head_of, sealed}
 use Rattle.dstree.proofs.SheetWritten.{head_length}
+use Rattle.dstree.specs.SheetWidths.{format_by}
+use Rattle.sheet.specs.Formats.{says_wide}
 use Rattle.sheet.proofs.Laid.{block_is, head_put}
 use Rattle.sheet.proofs.blocks.write_head.Goals as goal
 
@@ -22,5 +24,4 @@ returns c =
     ∙ ap (λ (x : List ℕ). sets x 8 (measure_bytes m a.count)) lettered ∙ head_put m a.count _ in
     c.seal.ensures
     ∙ ap (λ (x : List ℕ). sealed (take checked_size x)) put
-    ∙ block_is c.head_kind.result 0 (head_of m a.count) (omega (arith, head_length m a.count))
-    ∙ ap (λ (k : ℕ). block k 0 (head_of m a.count)) c.head_kind.ensures
+    ∙ block_is (format_by (says_wide a.format)).head_kind 0 (head_of m a.count) (omega (arith, head_length m a.count))

@@ -5,6 +5,3 @@ use Rattle.sheet.proofs.check.check_of.Given as goal
 
 abbrev pub invariant-loop-row : goal.invariant-loop-row
 invariant-loop-row l = (l.row ≤ 7) × RowsTaken l.block l.row l.sums l.later
-
-abbrev pub decreases-loop-row : goal.decreases-loop-row
-decreases-loop-row l = l.row

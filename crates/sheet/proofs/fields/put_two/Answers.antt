@@ -1,14 +1,9 @@
--- `sheet::fields::put_two` meets its contract: two stores.
-use mathlib.Core.Path.{refl}
-use native.Mathlib.Numerals.{add-one}
-use native.Mathlib.Omega.{arith}
-use lib.ListN.{length-set}
+-- `sheet::fields::put_two` meets its contract: the two bytes that the library makes of a number are the definition's.
+use mathlib.Core.Path.{ap, ◌∙◌}
+use lib.Seq.{sets}
 use Rattle.dstree.specs.Sheet.{bytes_of}
 use Rattle.sheet.proofs.fields.put_two.Goals as goal
 
-pub bounds-bytes-place-2 : goal.bounds-bytes-place-2
-bounds-bytes-place-2 c = simp length-set (omega arith)
-
 pub returns : goal.returns
 unfolding bytes_of
-returns c = rw (add-one c.args.place) refl
+returns c = c.put_bytes.ensures ∙ ap (sets c.args.bytes.now c.args.place) c.to_le_bytes.ensures

@@ -6,6 +6,4 @@ use Rattle.sheet.proofs.fields.two_bytes.Goals as goal
 pub returns : goal.returns
 returns c =
     let e = number_is c.args.bytes.now c.args.place c.requires in
-    let low = c.wide.ensures in
-    let high = c.wide-2.ensures in
-    (omega (arith, e, low.0, high.0), omega (arith, low.1, high.1))
+    (omega (arith, e), omega arith)

@@ -1,84 +1,49 @@
--- `sheet::samples::all_narrow` meets its contract: the first i samples fit. The measure is how many are left.
+-- `sheet::samples::all_narrow` meets its contract: the samples of the words passed fit.
 use mathlib.Core.Path.{◌≡◌, refl, sym, ap, ◌∙◌}
-use Prim.Native.Nat.{ℕ, ◌<◌}
+use Prim.Native.Nat.{ℕ}
 use native.Mathlib.Omega.{arith}
 use mathlib.Core.List.{List}
-use Rattle.integer.specs.Words.{every}
 use lib.IntN.{ℤ, pos}
 use lib.Signed.{mag}
-use lib.ListN.{length, get_or}
+use lib.ListN.{get_or}
+use lib.Seq.{take_all}
 use mir.Syntax.{w32}
 use mir.Facts.{to_z-of_z}
-use Rattle.integer.proofs.Width.{of_mag}
-use Rattle.segment.specs.Stored.{samples_of}
+use Rattle.integer.specs.Words.{every}
+use Rattle.integer.proofs.Width.{of_mag, read}
+use Rattle.segment.specs.Stored.{sample_of, samples_of}
 use Rattle.segment.proofs.Steps.{read_word}
-use Rattle.segment.proofs.Stored.{all_samples, samples_length}
+use Rattle.segment.proofs.Stored.{FitsWord, samples_length}
 use Rattle.dstree.specs.Measures.{are_within}
 use Rattle.dstree.specs.Sheet.{narrow_limit}
 use Rattle.sheet.proofs.Within.{within_more, within_not}
 use Rattle.sheet.proofs.samples.all_narrow.Goals as goal
 
--- in a turn: how far the sample lies from 0
-module _ (c : goal.Then-magnitude-ge32768) where
-  abbrev t : goal.Then-magnitude-ge32768
-  t = c
+-- how far the sample of a word lies from 0, as code finds it
+size_is : (words : List ℤ) (i : ℕ) (sample : ℤ) → FitsWord (get_or words i (pos 0)) → FitsWord sample
+    → sample ≡ sample_of (read w32 (get_or words i (pos 0))) → mag (read w32 sample) ≡ mag (get_or (samples_of words) i (pos 0))
+size_is words i sample word small e = ap mag (to_z-of_z (of_mag {w = w32} sample small) ∙ e ∙ read_word words i word)
 
-  abbrev samples : List ℤ
-  samples = samples_of t.args.words.now
-
-  abbrev i : ℕ
-  i = t.loop-i.i
-
-  inside : i < length samples
-  inside = omega (arith, t.loop-i-test.true, samples_length t.args.words.now)
-
-  size_is : c.magnitude.result ≡ mag (get_or samples i (pos 0))
-  size_is =
-      let sample = c.sample_of.result in
-      c.magnitude.ensures
-      ∙ ap mag (to_z-of_z (of_mag {w = w32} sample c.sample_of.type_inv) ∙ c.sample_of.ensures.value
-      ∙ read_word t.args.words.now i c.sample_of-arg-1.given)
-
--- in a turn: how far the sample lies from 0
-module _ (c : goal.Else-magnitude-ge32768) where
-  abbrev t_2 : goal.Else-magnitude-ge32768
-  t_2 = c
-
-  abbrev samples_2 : List ℤ
-  samples_2 = samples_of t_2.args.words.now
-
-  abbrev i_2 : ℕ
-  i_2 = t_2.loop-i.i
-
-  inside_2 : i_2 < length samples_2
-  inside_2 = omega (arith, t_2.loop-i-test.true, samples_length t_2.args.words.now)
-
-  size_is_2 : c.magnitude.result ≡ mag (get_or samples_2 i_2 (pos 0))
-  size_is_2 =
-      let sample = c.sample_of.result in
-      c.magnitude.ensures
-      ∙ ap mag (to_z-of_z (of_mag {w = w32} sample c.sample_of.type_inv) ∙ c.sample_of.ensures.value
-      ∙ read_word t_2.args.words.now i_2 c.sample_of-arg-1.given)
-
-pub loop-i-init : goal.loop-i-init
+pub loop-word-init : goal.loop-word-init
 unfolding every
-loop-i-init c = (omega arith, refl)
-
-pub bounds-words-i : goal.bounds-words-i
-bounds-words-i c = c.loop-i-test.true
+loop-word-init c = refl
 
 pub returns-then-magnitude-ge32768 : goal.returns-then-magnitude-ge32768
 returns-then-magnitude-ge32768 c =
-    sym (within_not narrow_limit (samples c) (i c) (inside c) (omega (arith, c.if-magnitude-ge32768.true, size_is c)))
+    let words = c.args.words.now in
+    let i = c.loop-word.word-index in
+    let size = size_is words i c.sample_of.result (omega arith) c.sample_of.type_inv c.sample_of.ensures.value in
+    sym (within_not narrow_limit (samples_of words) i (omega (arith, samples_length words)) (omega (arith, c.magnitude.ensures, size)))
 
-pub loop-i-preserved : goal.loop-i-preserved
-loop-i-preserved c = (
-  omega (arith, (t_2 c).loop-i-test.true),
-  within_more narrow_limit (samples_2 c) (i_2 c) (inside_2 c) (t_2 c).loop-i.invariant.1 (omega (arith, c.if-magnitude-ge32768.false, size_is_2 c)),
-)
+pub loop-word-preserved : goal.loop-word-preserved
+loop-word-preserved c =
+    let words = c.args.words.now in
+    let i = c.loop-word.word-index in
+    let size = size_is words i c.sample_of.result (omega arith) c.sample_of.type_inv c.sample_of.ensures.value in
+    within_more narrow_limit (samples_of words) i (omega (arith, samples_length words)) c.loop-word.invariant (omega (arith, c.magnitude.ensures, size))
 
 pub returns : goal.returns
 returns c =
-    let at = c.loop-i in
-    let words = c.args.words.now in
-    sym (sym (ap (are_within narrow_limit) (all_samples at.i words (omega (arith, c.loop-i-test.false)))) ∙ at.invariant.1)
+    let samples = samples_of c.args.words.now in
+    let all = take_all c.loop-word.word-index samples (omega (arith, samples_length c.args.words.now)) in
+    sym (sym (ap (are_within narrow_limit) all) ∙ c.loop-word.invariant)

@@ -1,4 +1,4 @@
--- `sheet::samples::copy_samples` meets its contract: the first i places hold the first i samples' words. The measure is how many are left.
+-- `sheet::samples::copy_samples` meets its contract: the first i places hold the first i samples' words.
 use mathlib.Core.Path.{◌≡◌, refl, sym, ap, ap₂, ◌∙◌, subst}
 use mathlib.Core.Bool.{Bool, true, false}
 use mathlib.Core.List.{List, ◌∷◌, [], ◌++◌}
@@ -21,6 +21,7 @@ use Rattle.segment.proofs.Stored.{sample_back, samples_joined}
 use Rattle.dstree.specs.Sheet.{Format, part, narrow_limit, decoded}
 use Rattle.dstree.specs.SheetWidths.{format_by}
 use Rattle.sheet.specs.Codes.{samples_in}
+use Rattle.sheet.specs.Formats.{says_wide}
 use Rattle.sheet.proofs.SamplesIn.{samples_none, samples_more, samples_length, samples_at}
 use Rattle.sheet.proofs.samples.copy_samples.Goals as goal
 
@@ -60,7 +61,7 @@ module _ (four : Bool) (bytes : List ℕ) (all size i : ℕ) (v : ℤ) (size_is 
 pub loop-i-init : goal.loop-i-init
 loop-i-init c =
     let a = c.args in
-    let none = samples_none (format_by a.four) a.bytes.now in
+    let none = samples_none (format_by (says_wide a.format)) a.bytes.now in
     (omega arith, refl, ap words_of (sym none), ap (λ (l : List ℤ). samples_of (words_of l)) none ∙ sym none)
 
 pub word_of-requires : goal.word_of-requires
@@ -72,8 +73,8 @@ word_of-requires c =
     let size_is = c.sample_bytes-size.ensures.value in
     let here : c.loop-i.i < all = omega (arith, c.loop-i-test.true, c.loop-i.invariant.1) in
     subst (λ (z : ℤ). mag z < sample_most)
-    (sym (value a.four a.bytes.now all size c.loop-i.i r.result size_is here r.type_inv r.ensures.value))
-    (small a.four a.bytes.now all size c.loop-i.i r.result size_is here c.requires.1 r.ensures.size r.ensures.value)
+    (sym (value (says_wide a.format) a.bytes.now all size c.loop-i.i r.result size_is here r.type_inv r.ensures.value))
+    (small (says_wide a.format) a.bytes.now all size c.loop-i.i r.result size_is here c.requires.1 r.ensures.size r.ensures.value)
 
 pub loop-i-preserved : goal.loop-i-preserved
 loop-i-preserved c =
@@ -85,16 +86,16 @@ loop-i-preserved c =
     let size = c.sample_bytes-size.result in
     let size_is = c.sample_bytes-size.ensures.value in
     let here : m.i < all = omega (arith, c.loop-i-test.true, m.invariant.1) in
-    let f = format_by a.four in
+    let f = format_by (says_wide a.format) in
     let sample = decoded f (part (m.i * f.sample_bytes) f.sample_bytes bytes) in
     let w = c.word_of.result in
     let word_is : to_z w32 (of_z w32 w) ≡ word_of sample =
     to_z-of_z (of_mag {w = w32} w c.word_of.type_inv) ∙ c.word_of.ensures.value
-    ∙ ap word_of (value a.four bytes all size m.i r.result size_is here r.type_inv r.ensures.value) in
-    let back = sample_back sample (small a.four bytes all size m.i r.result size_is here c.requires.1 r.ensures.size r.ensures.value) in (
+    ∙ ap word_of (value (says_wide a.format) bytes all size m.i r.result size_is here r.type_inv r.ensures.value) in
+    let back = sample_back sample (small (says_wide a.format) bytes all size m.i r.result size_is here c.requires.1 r.ensures.size r.ensures.value) in (
       simp length-set (omega (arith, c.loop-i-test.true)),
       length-set m.places m.i (to_z w32 (of_z w32 w)) ∙ m.invariant.1,
-      rw (add-one m.i) (take-suc-set m.places m.i (to_z w32 (of_z w32 w)) c.loop-i-test.true
+      rw (add-one m.i) (take-suc-set m.places m.i (to_z w32 (of_z w32 w)) (omega arith)
           ∙ ap₂ (λ (x : List ℤ) (z : ℤ). x ++ (z ∷ [])) m.invariant.2 word_is
           ∙ sym (words_more f m.i bytes)),
       rw (add-one m.i) (ap samples_of (words_more f m.i bytes)

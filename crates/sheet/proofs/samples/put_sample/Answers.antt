@@ -1,43 +1,25 @@
--- `sheet::samples::put_sample` meets its contract: four bytes, or two.
-use mathlib.Core.Path.{◌≡◌, sym, ap, ◌∙◌, subst}
-use mathlib.Core.Bool.{Bool}
-use mathlib.Core.List.{List}
-use Prim.Native.Nat.{ℕ, ◌+◌, ◌≤◌}
-use lib.ListN.{length}
+-- `sheet::samples::put_sample` meets its contract: the bytes that the library makes of a sample are the definition's.
+use mathlib.Core.Path.{ap, ◌∙◌}
+use lib.IntN.{ℤ, negsuc}
+use lib.ListN.{take}
 use lib.Seq.{sets}
+use mir.Syntax.{w32}
+use mir.Val.{of_z}
 use mir.Facts.{to_z-of_z}
-use Rattle.dstree.specs.Sheet.{narrow, wide, coded}
-use Rattle.dstree.specs.SheetWidths.{format_by}
+use Rattle.std.specs.Int.{to_le_bytes, int_max}
+use Rattle.integer.proofs.Width.{of_mag}
+use Rattle.sheet.proofs.Coded.{wide_bytes, narrow_bytes}
 use Rattle.sheet.proofs.samples.put_sample.Goals as goal
 
--- there is room for the bytes of the format that the test found
-room : (s : goal.After-code_four) (b : Bool) → s.args.four ≡ b → s.args.place + (format_by b).sample_bytes ≤ length s.args.bytes.now
-room s b e = subst (λ (x : Bool). s.args.place + (format_by x).sample_bytes ≤ length s.args.bytes.now) e s.requires
+pub returns-in-Narrow : goal.returns-in-Narrow
+returns-in-Narrow c =
+    let low = c.max.result in
+    let near = to_z-of_z (of_mag {w = w32} low c.max.type_inv) ∙ c.max.ensures.value
+    ∙ ap (λ (z : ℤ). int_max z (negsuc 65535)) (to_z-of_z c.ranges.sample) in
+    let bytes = c.to_le_bytes.ensures ∙ ap (λ (z : ℤ). to_le_bytes w32 (of_z w32 z)) near in
+    rw c.in-Narrow.is (c.put_bytes.ensures ∙ ap (sets c.args.bytes.now c.args.place) (ap (take 2) bytes ∙ narrow_bytes c.args.sample))
 
--- and these are the bytes
-put : (s : goal.After-slice_known-then-four-1) (b : Bool) → s.args.four ≡ b → (code : List ℕ) → code ≡ coded (format_by b) s.args.sample
-    → sets s.args.bytes.now s.args.place code ≡ sets s.args.bytes.now s.args.place (coded (format_by s.args.four) s.args.sample)
-put s b e code k = ap (sets s.args.bytes.now s.args.place) (k ∙ ap (λ (x : Bool). coded (format_by x) s.args.sample) (sym e))
-
--- there is room for the bytes of the format that the test found
-room_2 : (s : goal.After-code) (b : Bool) → s.args.four ≡ b → s.args.place + (format_by b).sample_bytes ≤ length s.args.bytes.now
-room_2 s b e = subst (λ (x : Bool). s.args.place + (format_by x).sample_bytes ≤ length s.args.bytes.now) e s.requires
-
--- and these are the bytes
-put_2 : (s : goal.After-slice_known-2-1) (b : Bool) → s.args.four ≡ b → (code : List ℕ) → code ≡ coded (format_by b) s.args.sample
-    → sets s.args.bytes.now s.args.place code ≡ sets s.args.bytes.now s.args.place (coded (format_by s.args.four) s.args.sample)
-put_2 s b e code k = ap (sets s.args.bytes.now s.args.place) (k ∙ ap (λ (x : Bool). coded (format_by x) s.args.sample) (sym e))
-
-pub put_four-requires : goal.put_four-requires
-put_four-requires c = room c _ c.if-four.true
-
-pub returns-then-four : goal.returns-then-four
-returns-then-four c =
-    c.put_four.ensures ∙ put c _ c.if-four.true _ (c.code_four.ensures ∙ ap (coded wide) (to_z-of_z c.ranges.sample))
-
-pub put_two-requires : goal.put_two-requires
-put_two-requires c = room_2 c _ c.if-four.false
-
-pub returns : goal.returns
-returns c =
-    c.put_two.ensures ∙ put_2 c _ c.if-four.false _ (c.code.ensures ∙ ap (coded narrow) (to_z-of_z c.ranges.sample))
+pub returns-in-Wide : goal.returns-in-Wide
+returns-in-Wide c =
+    let bytes = c.to_le_bytes-in-Wide.ensures ∙ ap (λ (z : ℤ). to_le_bytes w32 (of_z w32 z)) (to_z-of_z c.ranges.sample) in
+    rw c.in-Wide.is (c.put_bytes-in-Wide.ensures ∙ ap (sets c.args.bytes.now c.args.place) (bytes ∙ wide_bytes c.args.sample))

@@ -5,8 +5,7 @@ use mathlib.Core.Bool.{true, not}
 use native.Mathlib.Omega.{arith}
 use lib.Dec.{eqb}
 use borrow.Author.Tests.{eq-eqb, ne_eqb}
-use Rattle.dstree.specs.Sheet.{checked_size, part, number_in, check_of, is_kind, is_torn}
-use Rattle.dstree.specs.SheetWidths.{format_by}
+use Rattle.dstree.specs.Sheet.{checked_size, part, number_in, check_of, is_torn}
 use Rattle.sheet_blocks.proofs.blocks.is_torn.Goals as goal
 
 -- the test of the check, and of the number
@@ -81,4 +80,4 @@ unfolding is_torn
 returns c =
     let a = (start_3 c).args in
     simp (whole_check_2 c, eq-eqb _ _ (sym c.two_bytes-2.ensures.0 ∙ c.if-two_bytes-number.false))
-    (ap not (c.kind_fits.ensures ∙ ap (is_kind (format_by a.four) a.number a.before) c.wide.ensures.0))
+    (ap not (c.kind_fits.ensures))

@@ -6,7 +6,7 @@ use lib.Dec.{eqb}
 use borrow.Author.Tests.{ne_eqb}
 use Rattle.integer.proofs.Tests.{and_true, and_false}
 use Rattle.dstree.specs.Sheet.{Format, label_kind, is_kind}
-use Rattle.dstree.specs.SheetWidths.{format_by}
+use Rattle.sheet.specs.Formats.{format_by}
 use Rattle.sheet_blocks.proofs.blocks.kind_fits.Goals as goal
 
 module _ (f : Format) (before kind : ℕ) where
@@ -33,20 +33,21 @@ module _ (f : Format) (before kind : ℕ) where
 pub returns-then-number-eq0 : goal.returns-then-number-eq0
 returns-then-number-eq0 c =
     let a = c.args in
-    ap (eqb a.kind) (c.wide.ensures.0 ∙ c.head_kind.ensures) ∙ head (format_by a.four) a.before a.kind a.number c.if-number-eq0.true
+    ap (eqb a.kind) c.from.ensures ∙ head (format_by a.format) a.before a.kind a.number c.if-number-eq0.true
 
-pub returns-then-kind-eq5 : goal.returns-then-kind-eq5
-returns-then-kind-eq5 c =
+pub returns-then-kind-labels : goal.returns-then-kind-labels
+returns-then-kind-labels c =
     let a = c.args in
-    labels (format_by a.four) a.before a.kind a.number c.if-number-eq0.false c.if-kind-eq5.true
+    labels (format_by a.format) a.before a.kind a.number c.if-number-eq0.false (c.if-kind-labels.true ∙ c.from-labels.ensures)
 
-pub returns-then-before-eq5 : goal.returns-then-before-eq5
-returns-then-before-eq5 c =
+pub returns-then-before-labels : goal.returns-then-before-labels
+returns-then-before-labels c =
     let a = c.args in
-    behind_labels (format_by a.four) a.before a.kind a.number c.if-number-eq0.false c.if-kind-eq5.false c.if-before-eq5.true
+    behind_labels (format_by a.format) a.before a.kind a.number c.if-number-eq0.false (λ e. c.if-kind-labels.false (e ∙ sym c.from-labels.ensures)) (c.if-before-labels.true ∙ c.from-labels.ensures)
 
 pub returns : goal.returns
 returns c =
     let a = c.args in
-    ap (eqb a.kind) (c.wide-2.ensures.0 ∙ c.sample_kind.ensures)
-    ∙ samples (format_by a.four) a.before a.kind a.number c.if-number-eq0.false c.if-kind-eq5.false c.if-before-eq5.false
+    let own : a.kind ≡ label_kind → ⊥ = λ e. c.if-kind-labels.false (e ∙ sym c.from-labels.ensures) in
+    let behind : a.before ≡ label_kind → ⊥ = λ e. c.if-before-labels.false (e ∙ sym c.from-labels.ensures) in
+    ap (eqb a.kind) c.from-2.ensures ∙ samples (format_by a.format) a.before a.kind a.number c.if-number-eq0.false own behind

@@ -1,27 +1,27 @@
--- `sheet_blocks::zeros::zeros` meets its contract. The loop's invariant: the part from the place on is all zeros exactly if the whole part
--- is.
-use mathlib.Core.Path.{refl, sym, ◌∙◌}
-use native.Mathlib.Numerals.{add-one}
-use native.Mathlib.Omega.{arith}
-use Rattle.sheet_blocks.proofs.AllZero.{zero_here, zero_later, zero_end}
+-- `sheet_blocks::zeros::zeros` meets its contract: each byte of the part is compared.
+use mathlib.Core.Path.{◌≡◌, refl, ap, ◌∙◌}
+use mathlib.Core.Bool.{Bool, ◌&&◌}
+use mathlib.Core.List.{List, [], ◌∷◌}
+use Prim.Native.Nat.{ℕ, ◌-◌}
+use lib.Dec.{eqb}
+use borrow.Author.Rules.{rules}
+use borrow.Author.Tests.{tests}
+use Rattle.integer.specs.Words.{every}
+use Rattle.dstree.specs.Sheet.{part, are_zero}
+use Rattle.std.specs.List.{list_all}
+use Rattle.std.proofs.lemmas.Iterator.{YieldsList-from_slice}
+use Rattle.std.proofs.lemmas.Iterator.Search.{all_from_yields_List}
 use Rattle.sheet_blocks.proofs.zeros.zeros.Goals as goal
 
-pub loop-place-init : goal.loop-place-init
-loop-place-init c = (c.requires.0, refl)
-
-pub returns-then-bytes-place-ne0 : goal.returns-then-bytes-place-ne0
-returns-then-bytes-place-ne0 c =
-    let a = c.args in
-    sym (c.loop-place.invariant.1 ∙ zero_here a.bytes.now c.loop-place.place a.to c.loop-place-test.true c.requires.1 c.if-bytes-place-ne0.true)
-
-pub loop-place-preserved : goal.loop-place-preserved
-loop-place-preserved c =
-    let a = c.args in (
-      omega arith,
-      rw (add-one c.loop-place.place) (c.loop-place.invariant.1
-          ∙ zero_later a.bytes.now c.loop-place.place a.to c.loop-place-test.true c.requires.1 c.if-bytes-place-ne0.false),
-    )
+all_zero : (bytes : List ℕ) → list_all (λ (byte : ℕ). eqb byte 0) bytes ≡ are_zero bytes
+unfolding are_zero every
+all_zero [] = refl
+all_zero (byte ∷ bytes) = ap (λ (b : Bool). eqb byte 0 && b) (all_zero bytes)
 
 pub returns : goal.returns
 returns c =
-    sym (c.loop-place.invariant.1 ∙ zero_end c.args.bytes.now c.loop-place.place c.args.to c.loop-place-test.false)
+    let a = c.args in
+    let bytes = part a.from (a.to - a.from) a.bytes.now in
+    all_from_yields_List {all = bytes} (λ (byte : ℕ). eqb byte 0) _ _ _ c.all.ensures.ran (YieldsList-from_slice _ cc)
+    (λ x b q k. search (rules, tests))
+    ∙ all_zero bytes

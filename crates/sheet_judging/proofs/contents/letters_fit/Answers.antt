@@ -1,24 +1,21 @@
--- `sheet_judging::contents::letters_fit` meets its contract. The loop's invariant: the letters from i on fit exactly if all do.
-use mathlib.Core.Path.{refl, sym, ◌∙◌}
-use native.Mathlib.Numerals.{add-one}
-use native.Mathlib.Omega.{arith}
-use Rattle.dstree.specs.Sheet.{letters}
-use Rattle.sheet_judging.proofs.Heads.{letter_wrong, letter_right, letters_end}
+-- `sheet_judging::contents::letters_fit` meets its contract: the library compares slices as the definition compares lists.
+use mathlib.Core.Path.{◌≡◌, refl, ap, ◌∙◌}
+use mathlib.Core.Bool.{Bool, ◌&&◌}
+use mathlib.Core.List.{List, [], ◌∷◌}
+use Prim.Native.Nat.{ℕ}
+use lib.Dec.{eqb}
+use lib.Pointwise.{pointwise}
+use Rattle.integer.specs.Words.{same}
+use Rattle.dstree.specs.Sheet.{part, letters}
 use Rattle.sheet_judging.proofs.contents.letters_fit.Goals as goal
 
-pub loop-i-init : goal.loop-i-init
-loop-i-init c = (omega arith, refl)
-
-pub returns-then-sheet-i : goal.returns-then-sheet-i
-unfolding letters
-returns-then-sheet-i c =
-    sym (c.loop-i.invariant.1 ∙ letter_wrong c.args.sheet.now c.requires c.loop-i.i c.loop-i-test.true c.if-sheet-i.true)
-
-pub loop-i-preserved : goal.loop-i-preserved
-unfolding letters
-loop-i-preserved c =
-    (omega arith, rw (add-one c.loop-i.i) (c.loop-i.invariant.1 ∙ letter_right c.args.sheet.now c.requires c.loop-i.i c.loop-i-test.true c.if-sheet-i.false))
+same_is : (xs ys : List ℕ) → pointwise eqb xs ys ≡ same xs ys
+unfolding same
+same_is [] [] = refl
+same_is [] (y ∷ ys) = refl
+same_is (x ∷ xs) [] = refl
+same_is (x ∷ xs) (y ∷ ys) = ap (λ (b : Bool). eqb x y && b) (same_is xs ys)
 
 pub returns : goal.returns
-returns c =
-    sym (c.loop-i.invariant.1 ∙ letters_end c.args.sheet.now c.requires c.loop-i.i c.loop-i.invariant.0 c.loop-i-test.false)
+unfolding letters
+returns c = c.eq.ensures ∙ same_is (part 4 4 c.args.sheet.now) letters

@@ -1,6 +1,5 @@
 -- `sheet_judging::labels::labels_zero` meets its contract. The loop's invariant: all labels are zero exactly if those from number i on are.
 use mathlib.Core.Path.{◌≡◌}
-use Prim.Native.Nat.{◌-◌, ◌≤◌}
 use lib.ListN.{drop}
 use Rattle.dstree.specs.Labels.{are_zero_labels}
 use Rattle.dstree.specs.Sheet.{labels_in_blocks}
@@ -9,8 +8,4 @@ use Rattle.sheet_judging.proofs.labels.labels_zero.Given as goal
 
 abbrev pub invariant-loop-i : goal.invariant-loop-i
 invariant-loop-i l =
-    (l.i ≤ l.count)
-    × (are_zero_labels (labels_in_blocks l.count (label_blocks l.sheet)) ≡ are_zero_labels (drop l.i (labels_in_blocks l.count (label_blocks l.sheet))))
-
-abbrev pub decreases-loop-i : goal.decreases-loop-i
-decreases-loop-i l = l.count - l.i
+    are_zero_labels (labels_in_blocks l.count (label_blocks l.sheet)) ≡ are_zero_labels (drop l.i (labels_in_blocks l.count (label_blocks l.sheet)))

@@ -17,6 +17,7 @@ use Rattle.tables.proofs.Range.{samples_fit}
 use Rattle.sheet_blocks.specs.Blocks.{block_at, label_start}
 use Rattle.sheet_blocks.specs.Traces.{size_of, count_of, samples_from}
 use Rattle.sheet_blocks.proofs.Places.{first_inside}
+use Rattle.sheet.specs.Formats.{says_wide}
 use Rattle.sheet_judging.proofs.Samples.{GoodAs, good_as, range_as, count_few, samples_inside_lem}
 use Rattle.sheet_judging.proofs.Ranged.{held_within, narrow_fits}
 use Rattle.sheet_judging.specs.HeadBlock.{HeadSays}
@@ -58,51 +59,56 @@ ranges_are : (w : Bool) (xs : List Trace) (a b : Bool) → w ≡ true → every 
 unfolding range_conditions all_narrow sample_limit
 ranges_are w xs a b e fits within = rw (e, fits, within) refl
 
-pub returns-then-not-four : goal.returns-then-not-four
+pub returns-in-Narrow : goal.returns-in-Narrow
 unfolding found_by
-returns-then-not-four c =
+returns-in-Narrow c =
     let b = c.args.sheet.now in
+    let narrow_is = ap says_wide c.in-Narrow.is in
     let known = known_bytes b (λ i. (c.type_inv.sheet i).fits) in
-    sym (ap (λ (w : Bool). first_of (range_conditions w (traces_held (format_by w) (blocks_in b)))) c.if-not-four.true
-    ∙ narrow_fits b known (subst (λ (w : Bool). first_of (conditions_as (format_by w) b) ≡ none) c.if-not-four.true c.requires))
+    sym (ap (λ (w : Bool). first_of (range_conditions w (traces_held (format_by w) (blocks_in b)))) narrow_is
+    ∙ narrow_fits b known (subst (λ (w : Bool). first_of (conditions_as (format_by w) b) ≡ none) narrow_is c.requires))
 
 pub head_of-head-requires : goal.head_of-head-requires
-head_of-head-requires c = first_inside c.args.sheet.now (good c.args.four c.args.sheet.now c.requires).whole
+head_of-head-requires c = first_inside c.args.sheet.now (good (says_wide c.args.format) c.args.sheet.now c.requires).whole
 
 pub overflow_mul-count : goal.overflow_mul-count
-overflow_mul-count c = record { fits = counted c.args.four c.args.sheet.now c.requires _ _ _ _ c.head_of-head.ensures }
+overflow_mul-count c = record { fits = counted (says_wide c.args.format) c.args.sheet.now c.requires _ _ _ _ c.head_of-head.ensures }
 
 pub all_fit-requires : goal.all_fit-requires
-all_fit-requires c =
-    ((good c.args.four c.args.sheet.now c.requires).whole, inside c.args.four c.args.sheet.now c.requires _ _ _ _ c.head_of-head.ensures)
+all_fit-requires c = (
+  (good (says_wide c.args.format) c.args.sheet.now c.requires).whole,
+  inside (says_wide c.args.format) c.args.sheet.now c.requires _ _ _ _ c.head_of-head.ensures,
+)
 
 pub returns-then-all_fit : goal.returns-then-all_fit
 unfolding found_by word_of first_of
 returns-then-all_fit c =
     let b = c.args.sheet.now in
-    let four = c.args.four in
+    let four = says_wide c.args.format in
     let fits = tested four b c.requires _ _ _ _ c.head_of-head.ensures 32768 c.all_fit.result c.all_fit.ensures in
     let xs = traces four b c.requires in
-    sym (ranges_are four xs true (every (are_within 524288) xs) c.if-not-four.false (fits ∙ c.if-all_fit.true) refl)
+    sym (ranges_are four xs true (every (are_within 524288) xs) (ap says_wide c.in-Wide.is) (fits ∙ c.if-all_fit.true) refl)
 
-pub all_fit-requires-2 : goal.all_fit-requires-2
-all_fit-requires-2 c =
-    ((good c.args.four c.args.sheet.now c.requires).whole, inside c.args.four c.args.sheet.now c.requires _ _ _ _ c.head_of-head.ensures)
+pub all_fit-requires-in-Wide : goal.all_fit-requires-in-Wide
+all_fit-requires-in-Wide c = (
+  (good (says_wide c.args.format) c.args.sheet.now c.requires).whole,
+  inside (says_wide c.args.format) c.args.sheet.now c.requires _ _ _ _ c.head_of-head.ensures,
+)
 
 pub returns-then-not-all_fit : goal.returns-then-not-all_fit
 unfolding found_by word_of first_of
 returns-then-not-all_fit c =
     let b = c.args.sheet.now in
-    let four = c.args.four in
+    let four = says_wide c.args.format in
     let fits = tested four b c.requires _ _ _ _ c.head_of-head.ensures 32768 c.all_fit.result c.all_fit.ensures in
-    let outside = tested four b c.requires _ _ _ _ c.head_of-head.ensures 524288 c.all_fit-2.result c.all_fit-2.ensures in
-    sym (ranges_are four (traces four b c.requires) false false c.if-not-four.false (fits ∙ c.if-all_fit.false) (outside ∙ c.if-not-all_fit.true))
+    let outside = tested four b c.requires _ _ _ _ c.head_of-head.ensures 524288 c.all_fit-in-Wide.result c.all_fit-in-Wide.ensures in
+    sym (ranges_are four (traces four b c.requires) false false (ap says_wide c.in-Wide.is) (fits ∙ c.if-all_fit.false) (outside ∙ c.if-not-all_fit.true))
 
-pub returns : goal.returns
+pub returns-else-not-all_fit : goal.returns-else-not-all_fit
 unfolding found_by first_of
-returns c =
+returns-else-not-all_fit c =
     let b = c.args.sheet.now in
-    let four = c.args.four in
+    let four = says_wide c.args.format in
     let fits = tested four b c.requires _ _ _ _ c.head_of-head.ensures 32768 c.all_fit.result c.all_fit.ensures in
-    let within = tested four b c.requires _ _ _ _ c.head_of-head.ensures 524288 c.all_fit-2.result c.all_fit-2.ensures in
-    sym (ranges_are four (traces four b c.requires) false true c.if-not-four.false (fits ∙ c.if-all_fit.false) (within ∙ c.if-not-all_fit.false))
+    let within = tested four b c.requires _ _ _ _ c.head_of-head.ensures 524288 c.all_fit-in-Wide.result c.all_fit-in-Wide.ensures in
+    sym (ranges_are four (traces four b c.requires) false true (ap says_wide c.in-Wide.is) (fits ∙ c.if-all_fit.false) (within ∙ c.if-not-all_fit.false))

@@ -25,6 +25,6 @@ unfolding records_needed
 match_query-requires c =
     let g = c.args in
     let same : g.n ≡ length (take g.n (replicate 64 (pos 0))) = length_is g.n (omega (arith, c.requires.size, n_small g.sheet.now c.requires.fine)) in (
-      subst (λ (k : ℕ). EarlierStored g.control.now g.samples.now g.nodes.now g.links.now g.work.now g.sheet.now k g.last) same c.requires,
+      subst (λ (k : ℕ). EarlierStored g.stored.control.now g.stored.samples.now g.stored.nodes.now g.stored.links.now g.work.now g.sheet.now k g.last) same c.requires,
       omega arith,
     )

@@ -73,7 +73,7 @@ search_all-seen-requires c =
     let p = c.requires in
     let r = p.0 in
     let known = known_bytes b (λ i. (c.type_inv.sheet i).fits) in
-    let lent : Tables = tables a.control.now a.samples.now a.nodes.now a.links.now [] in
+    let lent : Tables = tables a.stored.control.now a.stored.samples.now a.stored.nodes.now a.stored.links.now [] in
     let ready_for =
     ready lent (said b) (earlier b a.last r.fine r.before_last) (samples_of c.read_trace.new.trace) r.earlier
     (library b a.last r.fine r.before_last known) (one b a.last r.fine r.before_last)
@@ -89,7 +89,7 @@ returns c =
     let b : List ℕ = a.sheet.now in
     let r = c.requires.0 in
     let known = known_bytes b (λ i. (c.type_inv.sheet i).fits) in
-    let lent : Tables = tables a.control.now a.samples.now a.nodes.now a.links.now [] in
+    let lent : Tables = tables a.stored.control.now a.stored.samples.now a.stored.nodes.now a.stored.links.now [] in
     let s = c.search_all-seen in
     let found = s.result in
     found_line lent (said b) (earlier b a.last r.fine r.before_last) (samples_of c.read_trace.new.trace) r.earlier

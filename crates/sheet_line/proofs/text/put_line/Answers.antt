@@ -5,16 +5,16 @@ use Rattle.sheet_line.specs.Lines.{line_by}
 use Rattle.sheet_line.proofs.Texts.{as_line}
 use Rattle.sheet_line.proofs.text.put_line.Goals as goal
 
-pub returns-in-At : goal.returns-in-At
+pub returns-in-Ok : goal.returns-in-Ok
 unfolding line_by
-returns-in-At c =
+returns-in-Ok c =
     let p = c.put_numbers in
     let out = c.args.out.now in
-    as_line p.result p.new.out out _ _ (sym (ap line_by c.in-At.is)) p.ensures
+    as_line p.result p.new.out out _ _ (sym (ap line_by c.in-Ok.is)) p.ensures
 
-pub returns-in-Refused : goal.returns-in-Refused
+pub returns-in-Err : goal.returns-in-Err
 unfolding line_by refusal_line
-returns-in-Refused c =
+returns-in-Err c =
     let p = c.put_refusal in
     let out = c.args.out.now in
-    as_line p.result p.new.out out _ _ (ap₂ refused_line c.number-number.ensures c.place-block.ensures ∙ sym (ap line_by c.in-Refused.is)) p.ensures
+    as_line p.result p.new.out out _ _ (ap₂ refused_line c.number-number.ensures c.place-block.ensures ∙ sym (ap line_by c.in-Err.is)) p.ensures

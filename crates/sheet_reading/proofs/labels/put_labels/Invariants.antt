@@ -1,7 +1,6 @@
--- `sheet_reading::labels::put_labels` meets its contract: after i turns the first i labels are put. The measure is how many are left.
+-- `sheet_reading::labels::put_labels` meets its contract: after i turns the first i labels are put.
 use mathlib.Core.Path.{◌≡◌}
 use mathlib.Core.List.{map}
-use Prim.Native.Nat.{◌-◌, ◌≤◌}
 use lib.ListN.{length}
 use lib.Seq.{paste}
 use Rattle.dstree.specs.Labels.{label_place}
@@ -10,7 +9,4 @@ use Rattle.sheet_reading.proofs.labels.put_labels.Given as goal
 
 abbrev pub invariant-loop-i : goal.invariant-loop-i
 invariant-loop-i l =
-    (l.i ≤ l.count) × (l.labels ≡ paste l.initial.labels 0 (map label_place (sheet_labels l.sheet)) l.i) × (length l.labels ≡ length l.initial.labels)
-
-abbrev pub decreases-loop-i : goal.decreases-loop-i
-decreases-loop-i l = l.count - l.i
+    (l.labels ≡ paste l.initial.labels 0 (map label_place (sheet_labels l.sheet)) l.i) × (length l.labels ≡ length l.initial.labels)

@@ -11,6 +11,7 @@ use Rattle.segment.specs.Stored.{samples_of}
 use Rattle.dstree.specs.Sheet.{part, Format, block_size, block, coded_all}
 use Rattle.dstree.specs.SheetWidths.{format_by}
 use Rattle.tables.proofs.Parts.{part_of_words}
+use Rattle.sheet.specs.Formats.{says_wide}
 use Rattle.sheet_writing.specs.Filled.{with_block}
 use Rattle.sheet_writing.proofs.Runs.{lent_run}
 use borrow.Author.Rules.{rules}
@@ -22,7 +23,7 @@ module _ (b : goal.After-block_samples-each) where
   start = b
 
   abbrev f : Format
-  f = format_by start.args.four
+  f = format_by (says_wide start.args.format)
 
   abbrev each : ℕ
   each = b.block_samples-each.result
@@ -39,7 +40,7 @@ module _ (b : goal.After-write_samples-arg-1) where
   start_2 = b
 
   abbrev f_2 : Format
-  f_2 = format_by start_2.args.four
+  f_2 = format_by (says_wide start_2.args.format)
 
   abbrev each_2 : ℕ
   each_2 = b.block_samples-each.result
@@ -61,7 +62,7 @@ module _ (b : goal.After-slice_known-2-1) where
   start_4 = b
 
   abbrev f_4 : Format
-  f_4 = format_by start_4.args.four
+  f_4 = format_by (says_wide start_4.args.format)
 
   abbrev each_4 : ℕ
   each_4 = b.block_samples-each.result

@@ -16,6 +16,7 @@ use Rattle.tables.specs.Tables.{Tables, field, measures_of, trace_count}
 use Rattle.tables.specs.View.{labels_in}
 use Rattle.dstree.proofs.SheetFormat.{SoundFormat, needed_tight, needed_most, labels_sound, cells_tight}
 use Rattle.dstree.proofs.SheetWidths.{half_by, format_sound}
+use Rattle.sheet.specs.Formats.{says_wide}
 use Rattle.sheet_writing.specs.Filled.{sheet_tables, with_block, with_samples, with_label_blocks}
 use Rattle.sheet_writing.proofs.Stored.{filled_is}
 use Rattle.sheet_writing.proofs.filling.fill_sheet.Goals as goal
@@ -60,7 +61,7 @@ module _ (w : goal.After-fill_head-arg-1) where
   k_3 = field start_3.args.control.now trace_count_place
 
   abbrev f_3 : Format
-  f_3 = format_by start_3.args.four
+  f_3 = format_by (says_wide start_3.args.format)
 
   abbrev stored_3 : Tables
   stored_3 = sheet_tables start_3.args.control.now start_3.args.samples.now start_3.args.labels.now
@@ -108,10 +109,10 @@ module _ (w : goal.After-fill_blocks-arg-1) where
   k_4 = field start_4.args.control.now trace_count_place
 
   abbrev f_4 : Format
-  f_4 = format_by start_4.args.four
+  f_4 = format_by (says_wide start_4.args.format)
 
-  sound_4 : SoundFormat f_4 (half_by start_4.args.four)
-  sound_4 = format_sound start_4.args.four
+  sound_4 : SoundFormat f_4 (half_by (says_wide start_4.args.format))
+  sound_4 = format_sound (says_wide start_4.args.format)
 
   abbrev stored_4 : Tables
   stored_4 = sheet_tables start_4.args.control.now start_4.args.samples.now start_4.args.labels.now
@@ -165,10 +166,10 @@ module _ (w : goal.After-fill_labels-arg-1) where
   k_5 = field start_5.args.control.now trace_count_place
 
   abbrev f_5 : Format
-  f_5 = format_by start_5.args.four
+  f_5 = format_by (says_wide start_5.args.format)
 
-  sound_5 : SoundFormat f_5 (half_by start_5.args.four)
-  sound_5 = format_sound start_5.args.four
+  sound_5 : SoundFormat f_5 (half_by (says_wide start_5.args.format))
+  sound_5 = format_sound (says_wide start_5.args.format)
 
   abbrev stored_5 : Tables
   stored_5 = sheet_tables start_5.args.control.now start_5.args.samples.now start_5.args.labels.now
@@ -228,10 +229,10 @@ module _ (w : goal.After-slice_known-4-1) where
   k_6 = field start_6.args.control.now trace_count_place
 
   abbrev f_6 : Format
-  f_6 = format_by start_6.args.four
+  f_6 = format_by (says_wide start_6.args.format)
 
-  sound_6 : SoundFormat f_6 (half_by start_6.args.four)
-  sound_6 = format_sound start_6.args.four
+  sound_6 : SoundFormat f_6 (half_by (says_wide start_6.args.format))
+  sound_6 = format_sound (says_wide start_6.args.format)
 
   abbrev stored_6 : Tables
   stored_6 = sheet_tables start_6.args.control.now start_6.args.samples.now start_6.args.labels.now

@@ -1,11 +1,11 @@
 -- `split_choice::choice::try_one` meets its contract: a candidate parts the leaf exactly if both its sides are seen, and then the better of
 -- it and the best so far is kept.
+use Rattle.std.specs.Prelude.{Some}
 use mathlib.Core.Path.{◌≡◌, sym, ap, ap₂, subst, ◌∙◌}
 use mathlib.Core.Bool.{true}
 use mathlib.Core.List.{List, map}
 use Prim.Native.Nat.{ℕ, ◌*◌, ◌≤◌}
 use lib.IntN.{ℤ, nat_abs, ◌+ℤ◌}
-use lib.ListN.{take}
 use lib.Signed.{lt_z}
 use mir.Syntax.{w64}
 use mir.Facts.{to_z-of_z}
@@ -16,10 +16,11 @@ use Rattle.dstree.specs.Measures.{Trace, most_samples}
 use Rattle.dstree.specs.Figures.{run}
 use Rattle.dstree.specs.Node.{figure_of}
 use Rattle.dstree.specs.Adding.{traces_of, threshold_of}
-use Rattle.tables.specs.Walk.{stored_in}
 use Rattle.tables.specs.Runs.{figure_by}
 use Rattle.leaf_figures.specs.Ends.{ends_of}
-use Rattle.split_choice.specs.Choosing.{chosen_by, choice_of, better_of, ChoiceSound}
+use Rattle.leaf_figures.specs.Rows.{stored_of}
+use Rattle.split_choice.specs.Choosing.{chosen_by, better_of, ChoiceFound}
+use Rattle.split_choice.specs.declared.choice.Choice.{Choice}
 use Rattle.candidate.specs.Trials.{TrialExtremes}
 use Rattle.candidate.specs.Siding.{trial_test}
 use Rattle.candidate.specs.Parting.{look_of}
@@ -27,13 +28,13 @@ use Rattle.candidate.specs.declared.siding.Trial.{Trial}
 use Rattle.candidate.specs.declared.parting.Look.{Look}
 use Rattle.candidate.proofs.Seen.{seen_below}
 use Rattle.candidate.proofs.Threshold.{low_back, high_back, sum_small, sum_fits, sum_back}
-use Rattle.split_choice.proofs.Tried.{one_whole, one_chosen, one_sound}
+use Rattle.split_choice.proofs.Tried.{one_whole, one_chosen, one_sound, choice_of}
 use Rattle.split_choice.proofs.choice.try_one.Goals as goal
 
 module _ (stored : List Trace) (numbers : List ℕ) (c : Trial) where
   -- the figures of the candidate
   abbrev figures : List ℤ
-  figures = map (figure_of (figure_by c.by_scatter) (run c.first c.last)) (traces_of stored numbers)
+  figures = map (figure_of (figure_by c.by_scatter) (run c.on.first c.on.last)) (traces_of stored numbers)
 
   -- what is seen is what the least and the greatest figure say
   below_is : (low high : ℤ) → TrialExtremes (traces_of stored numbers) c low high → (seen : Look) → seen ≡ look_of stored (trial_test c (read w64 low +ℤ read w64 high)) numbers
@@ -49,46 +50,41 @@ look_at-seen-requires c =
     let p = c.requires in
     let back = low_back c.args.low c.args.high p.2.low_size p.2.high_size in
     let back_2 = high_back c.args.low c.args.high p.2.low_size p.2.high_size in
-    (p.0.listed, p.0.below, p.0.rows, p.1.inside, rw (back, back_2) p.2)
+    (p.1.inside, rw (back, back_2) p.2)
 
 pub overflow_add-threshold : goal.overflow_add-threshold
 overflow_add-threshold c =
     sum_fits c.args.low c.args.high c.requires.2.low_size c.requires.2.high_size
-
-pub gain_of-g-requires : goal.gain_of-g-requires
-gain_of-g-requires c = (c.requires.0, c.requires.1, c.requires.4)
 
 pub returns-then-seen : goal.returns-then-seen
 unfolding threshold_of
 returns-then-seen c =
     let a = c.args in
     let r = c.requires.2 in
-    let g = c.gain_of-g in
-    let stored = stored_in a.samples.now a.n a.k in
-    let numbers = take a.count a.list.now in
+    let g = c.gain_of-gain in
+    let l = a.leaf.rows.traces in
+    let stored = stored_of l in
+    let all = ends_of a.leaf.ends in
+    let numbers = l.list.now in
     let t : ℤ = read w64 (read w64 a.low +ℤ read w64 a.high) in
     let sum = sum_back a.low a.high r.low_size r.high_size in
-    let t_is : t ≡ least_ℤ (figures stored numbers a.c) +ℤ greatest_ℤ (figures stored numbers a.c) = sum ∙ ap₂ ◌+ℤ◌ r.low_is r.high_is in
-    let above : lt_z (least_ℤ (figures stored numbers a.c)) (greatest_ℤ (figures stored numbers a.c)) ≡ true = below_is (stored_in a.samples.now a.n a.k) (take a.count a.list.now) a.c a.low a.high
-    c.requires.2 c.look_at-seen.result c.look_at-seen.ensures ∙ c.if-seen.true in
+    let t_is : t ≡ least_ℤ (figures stored numbers a.trial) +ℤ greatest_ℤ (figures stored numbers a.trial) = sum ∙ ap₂ ◌+ℤ◌ r.low_is r.high_is in
+    let above : lt_z (least_ℤ (figures stored numbers a.trial)) (greatest_ℤ (figures stored numbers a.trial)) ≡ true =
+    below_is stored numbers a.trial a.low a.high r c.look_at-seen.result c.look_at-seen.ensures ∙ c.if-seen.true in
     let small_t : nat_abs t ≤ 2 * scatter_most most_samples = rw sum (sum_small a.low a.high r.low_size r.high_size) in
-    let e : c.better.result ≡ better_of a.old (choice_of a.c t g.result) =
-    c.better.ensures ∙ ap (λ (z : ℤ). better_of a.old (choice_of a.c t z)) (to_z-of_z (of_mag {w = w64} g.result g.type_inv)) in record {
-      after = record {
-        is = ap (chosen_by stored (ends_of a.e) numbers) e ∙ one_chosen stored (ends_of a.e) numbers a.n a.old c.requires.3 a.c t g.result above t_is g.ensures.value small_t c.requires.1;
-        sound = subst (ChoiceSound a.n stored (ends_of a.e) numbers) (sym e)
-            (one_sound stored (ends_of a.e) numbers a.n a.old c.requires.3 a.c t g.result above t_is g.ensures.value small_t c.requires.1);
-      };
-      room = g.ensures.room;
+    let e : c.better.result ≡ better_of a.old (choice_of a.trial t g.result) =
+    c.better.ensures ∙ ap (λ (z : ℤ). better_of a.old (choice_of a.trial t z)) (to_z-of_z (of_mag {w = w64} g.result g.type_inv)) in record {
+      is = ap (λ (x : Choice). chosen_by stored all numbers (Some x)) e
+          ∙ one_chosen stored all numbers l.n a.old c.requires.3 a.trial t g.result above t_is g.ensures.value small_t c.requires.1;
+      sound = subst (ChoiceFound l.n stored all numbers) (sym e)
+          (one_sound stored all numbers l.n a.old c.requires.3 a.trial t g.result above t_is g.ensures.value small_t c.requires.1);
     }
 
-pub returns-else-seen : goal.returns-else-seen
-returns-else-seen c =
-    let a = c.args in record {
-      after = record {
-        is = one_whole (stored_in a.samples.now a.n a.k) (ends_of a.e) (take a.count a.list.now) a.n a.old c.requires.3 a.c
-            (below_is (stored_in a.samples.now a.n a.k) (take a.count a.list.now) a.c a.low a.high c.requires.2 c.look_at-seen.result c.look_at-seen.ensures ∙ c.if-seen.false);
-        sound = c.requires.3;
-      };
-      room = c.requires.4;
+pub returns : goal.returns
+returns c =
+    let l = c.args.leaf.rows.traces in
+    record {
+      is = one_whole (stored_of l) (ends_of c.args.leaf.ends) l.list.now c.args.old c.args.trial
+          (below_is (stored_of l) l.list.now c.args.trial c.args.low c.args.high c.requires.2 c.look_at-seen.result c.look_at-seen.ensures ∙ c.if-seen.false);
+      sound = c.requires.3;
     }

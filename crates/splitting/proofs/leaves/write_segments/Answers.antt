@@ -1,5 +1,5 @@
 -- `splitting::leaves::write_segments` meets its contract: after i turns the first i segments are written (`Written`), and the others are
--- those of the ends that are left. The measure is how many are left.
+-- those of the ends that are left.
 use mathlib.Core.Path.{◌≡◌, refl, sym, ap, ap₂, ◌∙◌}
 use mathlib.Core.List.{List}
 use Prim.Native.Nat.{ℕ, ◌+◌, ◌≤◌}
@@ -23,7 +23,7 @@ use Rattle.leaf_figures.specs.Ends.{EndsRoom}
 use Rattle.leaf_figures.specs.declared.ends.Ends.{Ends}
 use Rattle.splitting.specs.Leaves.{with_segments}
 use Rattle.splitting.proofs.Written.{with_none, with_length, with_more, segments_length, segment_next, passed_more}
-use Rattle.splitting.proofs.leaves.write_segments.Invariants.{side}
+use Rattle.leaf_figures.specs.Sides.{side_traces}
 use Rattle.splitting.proofs.leaves.write_segments.Goals as goal
 
 -- there are as many places as ends
@@ -49,21 +49,14 @@ module _ (at : List ℕ) (count : ℕ) (room : count ≤ length at) (traces : Li
   all i h = take_all i segments (omega (arith, count_is, h))
 
 pub loop-i-init : goal.loop-i-init
-loop-i-init c =
-    (omega arith, omega arith, c.requires.4, refl, sym (with_none c.args.«record».now))
-
-pub offset_bounds-at-i : goal.offset_bounds-at-i
-offset_bounds-at-i c = omega (arith, c.requires.3.few)
-
-pub bounds-at-i : goal.bounds-at-i
-bounds-at-i c = omega (arith, c.requires.3.few)
+loop-i-init c = (omega arith, c.requires.4, refl, sym (with_none c.args.«record».now))
 
 pub side_figures-f-requires : goal.side_figures-f-requires
 side_figures-f-requires c =
     let l = c.loop-i in
     let e = c.args.e in
-    let r = next_at e.at e.count (enough e c.requires.3) l.i c.loop-i-test.true l.invariant.2 in
-    (c.requires.1, record { from_1 = l.invariant.1; rises = r.rises; to_n = r.to_n }, c.requires.2)
+    let r = next_at e.at e.count (enough e c.requires.3) l.i c.loop-i-test.true l.invariant.1 in
+    (c.requires.1, record { from_1 = l.invariant.0; rises = r.rises; to_n = r.to_n }, c.requires.2)
 
 pub write_segment-requires : goal.write_segment-requires
 write_segment-requires c =
@@ -71,9 +64,9 @@ write_segment-requires c =
     let l = c.loop-i in
     let a = c.args in
     let room = enough a.e c.requires.3 in
-    let r = next_at a.e.at a.e.count room l.i c.loop-i-test.true l.invariant.2 in
-    let traces = side a.samples.now a.links.now a.n a.k a.head a.marks.now a.mark in (
-      long a.e.at a.e.count room traces a.«record».now l.«record» l.i c.requires.0 c.requires.3.few (omega arith) l.invariant.4,
+    let r = next_at a.e.at a.e.count room l.i c.loop-i-test.true l.invariant.1 in
+    let traces = side_traces a.leaf a.marks.now a.mark in (
+      long a.e.at a.e.count room traces a.«record».now l.«record» l.i c.requires.0 c.requires.3.few (omega arith) l.invariant.3,
       omega (arith, c.requires.3.few, c.loop-i-test.true),
       omega (arith, r.to_n, c.requires.1.narrow),
       omega (arith, m.least_scatter_lem),
@@ -83,7 +76,7 @@ write_segment-requires c =
 pub overflow_add-first : goal.overflow_add-first
 overflow_add-first c =
     let e = c.args.e in
-    let r = next_at e.at e.count (enough e c.requires.3) c.loop-i.i c.loop-i-test.true c.loop-i.invariant.2 in
+    let r = next_at e.at e.count (enough e c.requires.3) c.loop-i.i c.loop-i-test.true c.loop-i.invariant.1 in
     omega (arith, r.to_n, c.requires.1.narrow)
 
 pub loop-i-preserved : goal.loop-i-preserved
@@ -95,23 +88,22 @@ loop-i-preserved c =
     let m = c.side_figures-f.ensures.small in
     let r = g.«record».now in
     let room = enough g.e c.requires.3 in
-    let traces = side g.samples.now g.links.now g.n g.k g.head g.marks.now g.mark in
+    let traces = side_traces g.leaf g.marks.now g.mark in
     let whole = segments g.e.at g.e.count room traces in
     let done = done_is g.e.at g.e.count room traces l.i (omega arith) in
     let new : Segment = segment_of traces (run l.first end) in
     let p = passed_more whole l.i new (segments_from (end + 1) (drop (l.i + 1) (take g.e.count g.e.at)) traces)
-    (sym l.invariant.3 ∙ segment_next g.e.at g.e.count room l.i c.loop-i-test.true l.first traces) in
+    (sym l.invariant.2 ∙ segment_next g.e.at g.e.count room l.i c.loop-i-test.true l.first traces) in
     let after : c.write_segment.new.record ≡ with_segment l.«record» l.i
     (segment_of_parts end (read w64 f.least_sum) (read w64 f.greatest_sum) f.least_scatter f.greatest_scatter) = c.write_segment.ensures in
     let same : segment_of_parts end (read w64 f.least_sum) (read w64 f.greatest_sum) f.least_scatter f.greatest_scatter
     ≡ new = rw (least_back f m, greatest_back f m) c.side_figures-f.ensures.result_value in
     let more : with_segment l.«record» l.i new ≡ with_segments r (take (l.i + 1) whole) =
-    ap₂ (λ (w : List ℤ) (j : ℕ). with_segment w j new) l.invariant.4 (sym done)
+    ap₂ (λ (w : List ℤ) (j : ℕ). with_segment w j new) l.invariant.3 (sym done)
     ∙ (with_more r c.requires.0 (take l.i whole) new (omega (arith, done, c.loop-i-test.true, c.requires.3.few))
     ∙ (ap (with_segments r) (sym p.0) ∙ ap (λ (j : ℕ). with_segments r (take j whole)) (sym (add-one l.i)))) in (
       omega arith,
-      omega arith,
-      (next_at g.e.at g.e.count room l.i c.loop-i-test.true l.invariant.2).on,
+      (next_at g.e.at g.e.count room l.i c.loop-i-test.true l.invariant.1).on,
       sym p.1 ∙ ap (λ (j : ℕ). drop j whole) (sym (add-one l.i)),
       after ∙
           (ap (with_segment l.«record» l.i) same ∙ more),
@@ -121,11 +113,11 @@ pub shape_of-record : goal.shape_of-record
 shape_of-record c =
     let l = c.loop-i in
     let a = c.args in
-    let traces = side a.samples.now a.links.now a.n a.k a.head a.marks.now a.mark in
-    long a.e.at a.e.count (enough a.e c.requires.3) traces a.«record».now l.«record» l.i c.requires.0 c.requires.3.few l.invariant.0 l.invariant.4 ∙ sym c.requires.0
+    let traces = side_traces a.leaf a.marks.now a.mark in
+    long a.e.at a.e.count (enough a.e c.requires.3) traces a.«record».now l.«record» l.i c.requires.0 c.requires.3.few c.loop-i.auto.i-end l.invariant.3 ∙ sym c.requires.0
 
 pub returns : goal.returns
 returns c =
     let a = c.args in
-    let traces = side a.samples.now a.links.now a.n a.k a.head a.marks.now a.mark in
-    c.loop-i.invariant.4 ∙ ap (with_segments a.«record».now) (all a.e.at a.e.count (enough a.e c.requires.3) traces c.loop-i.i c.loop-i-test.false)
+    let traces = side_traces a.leaf a.marks.now a.mark in
+    c.loop-i.invariant.3 ∙ ap (with_segments a.«record».now) (all a.e.at a.e.count (enough a.e c.requires.3) traces c.loop-i.i c.loop-i-test.false)

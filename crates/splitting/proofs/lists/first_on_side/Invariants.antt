@@ -1,4 +1,4 @@
--- `splitting::lists::first_on_side` meets its contract: no trace that was passed has the mark, so that the first of the side is still to
+-- `splitting::lists::first_on_side` meets its contract: no trace that was passed is on the side, so that the first of the side is still to
 -- come.
 use mathlib.Core.Path.{◌≡◌}
 use Prim.Native.Nat.{◌-◌, ◌≤◌}

@@ -1,17 +1,17 @@
--- `splitting::lists::list_side` meets its contract: what is listed and the traces with the mark that are still to come make the side. Each
--- trace that is met is written behind what is listed, and counts if it has the mark.
+-- `splitting::lists::list_side` meets its contract: what is listed and the traces on the side that are still to come make the side. Each
+-- trace that is met is written behind what is listed, and counts if it is on the side.
 use Rattle.std.specs.Prelude.{if◌then◌else◌}
 use mathlib.Core.Path.{◌≡◌, sym, ap, ap₂, ◌∙◌}
 use mathlib.Core.Bool.{Bool}
 use mathlib.Core.List.{List, ◌++◌, append-nil}
-use Prim.Native.Nat.{ℕ, suc, ◌≤◌, ◌<◌}
+use Prim.Native.Nat.{ℕ, suc, ◌+◌, ◌≤◌, ◌<◌}
 use native.Mathlib.Omega.{arith}
-use lib.ListN.{get_or, set, take, length-set}
 use lib.Dec.{eqb}
+use lib.ListN.{get_or, set, take, length-set}
 use Rattle.tables.specs.Walk.{behind_of}
 use Rattle.leaf_figures.specs.Sides.{marked}
 use Rattle.tables.proofs.Listed.{met_from, met_start, behind_rises}
-use Rattle.candidate.proofs.Sided.{with_one, listed_more, counted_most}
+use Rattle.candidate.proofs.Sided.{with_one, listed_more, counted_most, counted_is}
 use Rattle.splitting.proofs.Walks.{side_more, side_end}
 use Rattle.splitting.proofs.lists.list_side.Goals as goal
 
@@ -34,7 +34,7 @@ loop-t-preserved c =
     let a = c.args in
     let h = further c in
     let b : Bool = eqb (get_or a.marks.now l.t 0) a.mark in
-    let e : c.counted-count.result ≡ (if b then suc l.count else l.count) = c.counted-count.ensures in
+    let e : l.count + c.from-count.result ≡ (if b then suc l.count else l.count) = ap (λ (m : ℕ). l.count + m) c.from-count.ensures ∙ counted_is b l.count in
     let after = marked a.marks.now a.mark (met_from a.links.now a.k (behind_of a.links.now a.k l.t)) in
     let more : marked a.marks.now a.mark (met_from a.links.now a.k l.t) ≡ with_one b l.t after =
     side_more a.links.now a.k c.requires.3 a.marks.now a.mark l.t c.loop-t-test.true in (

@@ -1,5 +1,5 @@
--- `splitting::lists::list_side` meets its contract: what is listed and the traces with the mark that are still to come make the side. Each
--- trace that is met is written behind what is listed, and counts if it has the mark.
+-- `splitting::lists::list_side` meets its contract: what is listed and the traces on the side that are still to come make the side. Each
+-- trace that is met is written behind what is listed, and counts if it is on the side.
 use mathlib.Core.Path.{◌≡◌}
 use mathlib.Core.List.{◌++◌}
 use Prim.Native.Nat.{◌-◌, ◌≤◌}

@@ -45,7 +45,7 @@ module _ (samples : List ℤ) (links : List ℕ) (n k head : ℕ) (h : Choice) (
 
   -- whether a trace goes left, and the sides
   abbrev left_by : ℤ → ℕ → Bool
-  left_by z t = sends_left (test_by h.first h.last h.by_scatter z) (get_or (stored_in samples n k) t [])
+  left_by z t = sends_left (test_by h.trial.on.first h.trial.on.last h.trial.by_scatter z) (get_or (stored_in samples n k) t [])
 
   abbrev lefts : List ℕ
   lefts = those (left_by h.threshold) numbers
@@ -117,14 +117,15 @@ returns c =
     let all = numbers_of L g.k g.head in
     let on_left = lefts g.samples.now L g.n g.k g.head g.c r.stored r.threshold_size in
     let on_right = rights g.samples.now L g.n g.k g.head g.c r.stored r.threshold_size in
-    let test = test_by g.c.first g.c.last g.c.by_scatter g.c.threshold in
+    let test = test_by g.c.trial.on.first g.c.trial.on.last g.c.trial.by_scatter g.c.threshold in
     let P : c.become_inner.new.nodes ≡ on_record (inner_record test m (suc m)) N g.at =
     c.become_inner.ensures
-    ∙ ap₂ (λ (z : ℤ) (j : ℕ). on_record (inner_record (test_by g.c.first g.c.last g.c.by_scatter z) m j) N g.at) (back g.samples.now L g.n g.k g.head g.c r.stored r.threshold_size) (add-one m) in
-    let nodes : c.write_sides.new.nodes ≡ both t m (on_record (inner_record test m (suc m)) N g.at) (child_ends g.c.cut (ends_of g.e)) on_left on_right =
+    ∙ ap₂ (λ (z : ℤ) (j : ℕ). on_record (inner_record (test_by g.c.trial.on.first g.c.trial.on.last g.c.trial.by_scatter z) m j) N g.at)
+    (back g.samples.now L g.n g.k g.head g.c r.stored r.threshold_size) (add-one m) in
+    let nodes : c.write_sides.new.nodes ≡ both t m (on_record (inner_record test m (suc m)) N g.at) (child_ends g.c.trial.cut (ends_of g.e)) on_left on_right =
     c.write_sides.ensures
     ∙ (ap (λ (q : List ℤ). both t m q (ends_of c.child_ends-child.result) (marked M 1 all) (marked M 2 all)) P
     ∙ (ap (λ (es : List ℕ). both t m (on_record (inner_record test m (suc m)) N g.at) es (marked M 1 all) (marked M 2 all)) c.child_ends-child.ensures.result_value
-    ∙ ap₂ (λ (x y : List ℕ). both t m (on_record (inner_record test m (suc m)) N g.at) (child_ends g.c.cut (ends_of g.e)) x y) left right)) in
+    ∙ ap₂ (λ (x y : List ℕ). both t m (on_record (inner_record test m (suc m)) N g.at) (child_ends g.c.trial.cut (ends_of g.e)) x y) left right)) in
     let links : c.relink.new.links ≡ linked on_right (linked on_left L) = c.relink.ensures ∙ ap₂ (λ (x y : List ℕ). linked y (linked x L)) left right in
     ap₂ (λ (x : List ℤ) (y : List ℕ). tree_tables x y (suc (suc m))) nodes links

@@ -1,8 +1,7 @@
 -- `tables::control::judge_lent` meets its contract: each return is the first condition that held, and the tests before it were passed.
 use mathlib.Core.Path.{sym, ◌∙◌}
-use Rattle.dstree.specs.Measures.{measures}
 use Rattle.dstree.specs.Refusals.{first_of}
-use Rattle.tables.specs.Judge.{lent_conditions_of}
+use Rattle.tables.specs.Judge.{measures_by, lent_conditions_of}
 use Rattle.tables.specs.Answers.{word_of, found_by}
 use Rattle.tables.proofs.Range.{in_range_lem}
 use Rattle.tables.proofs.control.judge_lent.Goals as goal
@@ -11,14 +10,14 @@ pub returns-then-control_short : goal.returns-then-control_short
 unfolding first_of lent_conditions_of found_by word_of
 returns-then-control_short c =
     let a = c.args in
-    rw (← c.control_short.ensures a.samples a.nodes a.links a.work a.labels, c.if-control_short.true)
+    rw (← c.control_short.ensures a.lengths.samples a.lengths.nodes a.lengths.links a.lengths.work a.lengths.labels, c.if-control_short.true)
 
 pub returns-then-not-measures_fit : goal.returns-then-not-measures_fit
 unfolding first_of lent_conditions_of found_by word_of
 returns-then-not-measures_fit c =
     let a = c.args in
     rw (
-      ← c.control_short.ensures a.samples a.nodes a.links a.work a.labels,
+      ← c.control_short.ensures a.lengths.samples a.lengths.nodes a.lengths.links a.lengths.work a.lengths.labels,
       c.if-control_short.false,
       ← c.measures_fit.ensures,
       c.if-not-measures_fit.true,
@@ -27,7 +26,7 @@ returns-then-not-measures_fit c =
 pub tables_short-requires : goal.tables_short-requires
 tables_short-requires c =
     let a = c.args in
-    let r = in_range_lem (measures a.n a.capacity a.leaf_size) (sym c.measures_fit.ensures ∙ c.if-not-measures_fit.false) in
+    let r = in_range_lem (measures_by a.measures) (sym c.measures_fit.ensures ∙ c.if-not-measures_fit.false) in
     (r.n_high, r.capacity_high)
 
 pub returns-then-tables_short : goal.returns-then-tables_short
@@ -35,11 +34,11 @@ unfolding first_of lent_conditions_of found_by word_of
 returns-then-tables_short c =
     let a = c.args in
     rw (
-      ← c.control_short.ensures a.samples a.nodes a.links a.work a.labels,
+      ← c.control_short.ensures a.lengths.samples a.lengths.nodes a.lengths.links a.lengths.work a.lengths.labels,
       c.if-control_short.false,
       ← c.measures_fit.ensures,
       c.if-not-measures_fit.false,
-      ← c.tables_short.ensures a.control a.leaf_size,
+      ← c.tables_short.ensures a.lengths.control a.measures.leaf_size,
       c.if-tables_short.true,
     )
 
@@ -48,10 +47,10 @@ unfolding first_of lent_conditions_of found_by word_of
 returns c =
     let a = c.args in
     rw (
-      ← c.control_short.ensures a.samples a.nodes a.links a.work a.labels,
+      ← c.control_short.ensures a.lengths.samples a.lengths.nodes a.lengths.links a.lengths.work a.lengths.labels,
       c.if-control_short.false,
       ← c.measures_fit.ensures,
       c.if-not-measures_fit.false,
-      ← c.tables_short.ensures a.control a.leaf_size,
+      ← c.tables_short.ensures a.lengths.control a.measures.leaf_size,
       c.if-tables_short.false,
     )

@@ -14,28 +14,28 @@ use Rattle.dstree.specs.Measures.{sample_limit}
 use Rattle.tables.proofs.Samples.{one_outside, within_samples}
 use Rattle.tables.proofs.given.are_samples.Goals as goal
 
-pub loop-i-init : goal.loop-i-init
-loop-i-init c = (omega arith, λ i h. omega arith)
+pub loop-z-init : goal.loop-z-init
+loop-z-init c = (omega arith, λ i h. omega arith)
 
 pub returns-then-not-is_sample : goal.returns-then-not-is_sample
 unfolding sample_limit
 returns-then-not-is_sample c =
     let trace = c.args.trace.now in
-    let said = c.is_sample.ensures ∙ ap (λ (z : ℤ). ltb (mag z) sample_most) (read_plain trace c.loop-i.i c.is_sample-arg-1.given) in
-    sym (one_outside trace c.loop-i.i c.loop-i-test.true (sym said ∙ c.if-not-is_sample.true))
+    let said = c.is_sample.ensures ∙ ap (λ (z : ℤ). ltb (mag z) sample_most) (read_plain trace c.loop-z.z-index c.is_sample-arg-1.given) in
+    sym (one_outside trace c.loop-z.z-index c.loop-z-test.true (sym said ∙ c.if-not-is_sample.true))
 
-pub loop-i-preserved : goal.loop-i-preserved
-loop-i-preserved c =
+pub loop-z-preserved : goal.loop-z-preserved
+loop-z-preserved c =
     let trace = c.args.trace.now in
-    let said = c.is_sample.ensures ∙ ap (λ (z : ℤ). ltb (mag z) sample_most) (read_plain trace c.loop-i.i c.is_sample-arg-1.given) in (
+    let said = c.is_sample.ensures ∙ ap (λ (z : ℤ). ltb (mag z) sample_most) (read_plain trace c.loop-z.z-index c.is_sample-arg-1.given) in (
       omega arith,
-      within_more trace c.loop-i.i c.loop-i.invariant.1
-          (ltb-true (mag (get_or trace c.loop-i.i (pos 0))) sample_most (sym said ∙ c.if-not-is_sample.false)),
+      within_more trace c.loop-z.z-index c.loop-z.invariant.1
+          (ltb-true (mag (get_or trace c.loop-z.z-index (pos 0))) sample_most (sym said ∙ c.if-not-is_sample.false)),
     )
 
 pub returns : goal.returns
 unfolding sample_limit
 returns c =
-    let l = c.loop-i in
+    let l = c.loop-z in
     let trace = c.args.trace.now in
-    sym (within_samples trace (rw (take_all l.i trace (omega arith)) at l.invariant.1))
+    sym (within_samples trace (rw (take_all l.z-index trace (omega arith)) at l.invariant.1))

@@ -6,4 +6,5 @@ use Rattle.tables.proofs.label_table.place_of.Goals as goal
 pub returns : goal.returns
 unfolding label_place
 returns c =
-    at_place (label c.args.code c.args.serial) (record { code_fits = c.ranges.code.fits; serial_fits = c.ranges.serial.fits })
+    rw (c.from.ensures, c.from-2.ensures)
+    (at_place (label c.args.code c.args.serial) (record { code_fits = c.ranges.code.fits; serial_fits = c.ranges.serial.fits }))

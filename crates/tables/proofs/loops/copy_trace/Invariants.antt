@@ -1,8 +1,7 @@
--- `tables::loops::copy_trace` meets its contract: after j turns the first j samples of the trace are copied. The measure is how many are
--- left.
+-- `tables::loops::copy_trace` meets its contract: after j turns the first j samples of the trace are copied.
 use mathlib.Core.Path.{◌≡◌}
 use mathlib.Core.List.{List}
-use Prim.Native.Nat.{◌-◌, ◌≤◌}
+use Prim.Native.Nat.{◌≤◌}
 use lib.IntN.{ℤ}
 use lib.ListN.{length}
 use lib.Seq.{paste}
@@ -15,6 +14,3 @@ cleared trace = words_of (samples_of trace)
 
 abbrev pub invariant-loop-j : goal.invariant-loop-j
 invariant-loop-j l = (l.j ≤ length l.trace) × (l.samples ≡ paste l.initial.samples l.at (cleared l.trace) l.j) × (length l.samples ≡ length l.initial.samples)
-
-abbrev pub decreases-loop-j : goal.decreases-loop-j
-decreases-loop-j l = length l.trace - l.j

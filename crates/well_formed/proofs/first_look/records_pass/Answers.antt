@@ -9,5 +9,5 @@ pub returns : goal.returns
 returns c e =
     let a = c.args in
     all_visited a.n a.m a.k a.nodes.now (c.nodes_pass.ensures (c.if-not-nodes_pass.false))
-    (omega (arith, c.if-m-eq0.false)) c.requires.1 (sym c.segments_fit.ensures ∙ c.if-not-segments_fit.false)
+    (omega (arith, c.if-m-eq0.false)) c.requires.low (sym c.segments_fit.ensures ∙ c.if-not-segments_fit.false)
     (sym c.all_marked.ensures ∙ e)

@@ -3,6 +3,7 @@ use mathlib.Core.Path.{ap₂}
 use Prim.Native.Nat.{ℕ, ◌+◌, ◌*◌, ◌≤◌}
 use native.Mathlib.Nat.{mul-le-mul}
 use native.Mathlib.Omega.{arith}
+use Rattle.sheet.specs.Formats.{says_wide}
 use Rattle.sheet_blocks.proofs.Places.{each_most}
 use Rattle.sheet_blocks.proofs.blocks.Cursor.place.Goals as goal
 
@@ -10,7 +11,7 @@ use Rattle.sheet_blocks.proofs.blocks.Cursor.place.Goals as goal
 few : (c : goal.After-struct_known-1) → c.sample_bytes.result * c.args.self.used ≤ 4 * 253
 few c =
     mul-le-mul {n₁ = c.sample_bytes.result} {m₁ = c.args.self.used} {n₂ = 4} {m₂ = 253} c.sample_bytes.ensures.size.1
-    (omega (arith, c.requires.1, (each_most c.args.four).1))
+    (omega (arith, c.requires.1, (each_most (says_wide c.args.format)).1))
 
 pub overflow_mul-result : goal.overflow_mul-result
 overflow_mul-result c = omega (arith, few c)

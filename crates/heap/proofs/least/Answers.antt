@@ -1,6 +1,0 @@
--- `heap::least` meets its contract: the key at place 0 is the least.
-use Rattle.heap.proofs.Popping.{least_first}
-use Rattle.heap.proofs.least.Goals as goal
-
-pub returns : goal.returns
-returns c = least_first c.args.n c.args.s.now c.requires.0 c.requires.1 c.requires.2

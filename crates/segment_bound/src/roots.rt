@@ -50,11 +50,15 @@ fn falling_from(v: u64, start: u64) -> u64
     ensures { result ≡ falling_from start v start }
 {
     let mut est = lower_or_same(v, lower(v, start));
-    // where it no longer falls, the product shows that sooner than the division of a next estimate would
-    while v < est * est {
+    // "falling estimates until one no longer falls": the loop yields the last of them by its break
+    let root = loop {
+        // it no longer falls; the product shows that sooner than the division of a next estimate would
+        if est * est <= v {
+            break est;
+        }
         est = lower(v, est);
-    }
-    est
+    };
+    root
 }
 
 // The floor root: the largest r whose square is at most v. (The library's `isqrt` halves an interval and takes 2.7 times as long.)

@@ -30,12 +30,12 @@ overflow_mul-est c =
     omega (arith, mul-le-mul h h)
 
 pub lower-est-requires : goal.lower-est-requires
-lower-est-requires c = (omega (arith, c.loop-est.invariant.1), c.loop-est-test.true)
+lower-est-requires c = (omega (arith, c.loop-est.invariant.1), c.if-est-v.false)
 
 pub loop-est-smaller : goal.loop-est-smaller
 loop-est-smaller c =
     let v : ℕ = c.args.v in
-    omega (arith, c.lower-est.ensures, quotient_below v c.loop-est.est c.loop-est-test.true)
+    omega (arith, c.lower-est.ensures, quotient_below v c.loop-est.est c.if-est-v.false)
 
 pub loop-est-preserved : goal.loop-est-preserved
 loop-est-preserved c =
@@ -43,4 +43,4 @@ loop-est-preserved c =
 
 pub returns : goal.returns
 returns c =
-    floor_unique (between c.loop-est-test.false c.loop-est.invariant.2) ∙ sym (floor_from c.args.v c.args.start c.requires.0 c.requires.2)
+    floor_unique (between c.if-est-v.true c.loop-est.invariant.2) ∙ sym (floor_from c.args.v c.args.start c.requires.0 c.requires.2)

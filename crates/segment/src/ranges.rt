@@ -114,12 +114,16 @@ pub fn is_least_within(lows: &[Sample], highs: &[Sample], trace: &[Word], limit:
     summed_within::<Least>(lows, highs, trace, limit).is_some()
 }
 
-// The greatest distance, or a limit where it is not below that. The greater of the distances to the lows and to the highs does not meet
-// this: which end is farther differs from sample to sample.
+// The greatest distance, or a limit where it is not below that. What is below the limit is at most one less, and so a trace is left once it
+// has reached the limit. The greater of the distances to the lows and to the highs does not meet this: which end is farther differs from
+// sample to sample.
 pub fn greatest_within(lows: &[Sample], highs: &[Sample], trace: &[Word], limit: u64) -> u64
     requires { (length lows.now ≡ length trace.now) × (length highs.now ≡ length trace.now) × (length trace.now ≤ width_most)
         × SamplesWithin sample_most lows.now × SamplesWithin sample_most highs.now }
     ensures { result ≡ min limit (greatest_from lows.now highs.now (samples_of trace.now)) }
 {
-    summed_within::<Greatest>(lows, highs, trace, limit).unwrap_or(limit)
+    if limit == 0 {
+        return 0;
+    }
+    summed_within::<Greatest>(lows, highs, trace, limit - 1).unwrap_or(limit)
 }

@@ -1,7 +1,7 @@
-// The two sides of a leaf's list of traces, laid as lists of their own. Each trace has a mark, and a side is the traces
-// with one mark.
+// A leaf's list of traces: how long it is, and the two sides of it laid as lists of their own. Each trace has a mark, and a side is the
+// traces with one mark.
 
-ghost use Rattle.std.specs.Prelude.{◌≡◌, ℕ, ◌≤◌, ◌<◌, length, get_or, take};
+ghost use Rattle.std.specs.Prelude.{◌≡◌, ℕ, ◌≤◌, ◌<◌, length, get_or, take, ltb};
 ghost use Rattle.dstree.specs.Measures.{most_traces};
 ghost use Rattle.tables.specs.Walk.{Rising, numbers_of};
 ghost use Rattle.leaf_figures.specs.Sides.{marked};
@@ -9,6 +9,20 @@ ghost use Rattle.insertion_memory.specs.Links.{linked};
 
 use candidate::marking::{LEFT, RIGHT};
 use tables::walk::behind;
+
+// Whether the list that starts at `head` has more traces than the leaf size. As many as the leaf size are not more.
+pub fn leaf_longer(links: &[u16], k: usize, head: usize, leaf_size: usize) -> bool
+    requires { (head < k) × (k ≤ length links.now) × Rising links.now k }
+    ensures { result ≡ ltb leaf_size (length (numbers_of links.now k head)) }
+{
+    let mut seen: usize = 0;
+    let mut t = head;
+    while t < k {
+        seen += 1;
+        t = behind(links, k, t);
+    }
+    leaf_size < seen
+}
 
 // The leaf's traces with a mark, in the order of its list. The answer is how many there are; places behind them are not looked at.
 pub fn list_side(

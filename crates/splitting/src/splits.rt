@@ -13,7 +13,7 @@ ghost use Rattle.splitting.specs.Leaves.{Side, side_record};
 ghost use Rattle.splitting.specs.Splits.{Parts, Splits};
 
 use crate::leaves::write_leaf;
-use crate::lists::relink;
+use crate::lists::{leaf_longer, relink};
 use candidate::gains::child_ends;
 use candidate::marking::{LEFT, RIGHT, mark_sides};
 use insertion::heads::become_inner;
@@ -23,7 +23,6 @@ use segment::Word;
 use split_choice::choice::{Choice, choose};
 use tables::places::{FIRST, KIND};
 use tables::records::{node_small, record_at};
-use tables::walk::list_size;
 
 // The records of the two new leaves: the left one takes the next number, the right one the number behind it.
 fn write_sides(nodes: &mut [i64], count: usize, leaf: StoredLeaf, marks: &[u8; 4096], e: Ends)
@@ -103,8 +102,8 @@ pub fn split_at(
         return count;
     }
     let head = node_small(nodes, at, FIRST);
-    let traces = list_size(links, k, head);
-    if traces <= leaf_size {
+    let longer = leaf_longer(links, k, head, leaf_size);
+    if !longer {
         return count;
     }
     let e = ends_of(record_at(nodes, at));

@@ -1,6 +1,6 @@
 -- `splitting::splits::split_at` meets its contract: each test is the definition's (`Tried`), and the choice is the best split of the leaf.
 use mathlib.Core.Path.{◌≡◌, sym, ap, ap₂, subst, ◌∙◌}
-use mathlib.Core.Bool.{true, false}
+use mathlib.Core.Bool.{Bool, true, false}
 use mathlib.Core.Option.{none, some}
 use mathlib.Core.List.{List}
 use Prim.Native.Nat.{ℕ, suc, ◌+◌, ◌≤◌, ◌<◌}
@@ -8,8 +8,6 @@ use native.Mathlib.Omega.{arith}
 use lib.IntN.{ℤ}
 use lib.ListN.{length}
 use lib.Dec.{ltb}
-use borrow.Author.Tests.{le-ltb, lt-ltb}
-use Rattle.dstree.specs.Measures.{most_traces}
 use Rattle.dstree.specs.Node.{ends}
 use Rattle.dstree.specs.Adding.{best}
 use Rattle.dstree.specs.Formed.{Rises}
@@ -29,16 +27,10 @@ module _ (nodes : List ℤ) (links : List ℕ) (samples : List ℤ) (n k at : �
   abbrev r : List ℤ
   r = record_of nodes at
 
-  -- whether the leaf is long, by how many traces the list has that starts at `j`
-  is_short : (leaf_size j m : ℕ) → m ≡ length (numbers_of links k j) → j ≡ small_at r first_place → m ≤ leaf_size
-      → ltb leaf_size (length (numbers_of links k (small_at r first_place))) ≡ false
-  is_short leaf_size j m e f h =
-      le-ltb leaf_size (length (numbers_of links k (small_at r first_place))) (omega (arith, e, ap (λ (i : ℕ). length (numbers_of links k i)) f, h))
-
-  is_long : (leaf_size j m : ℕ) → m ≡ length (numbers_of links k j) → j ≡ small_at r first_place → leaf_size < m
-      → ltb leaf_size (length (numbers_of links k (small_at r first_place))) ≡ true
-  is_long leaf_size j m e f h =
-      lt-ltb leaf_size (length (numbers_of links k (small_at r first_place))) (omega (arith, e, ap (λ (i : ℕ). length (numbers_of links k i)) f, h))
+  -- whether the leaf is long, by the list that starts at `j`
+  longer_is : (leaf_size j : ℕ) (b v : Bool) → b ≡ ltb leaf_size (length (numbers_of links k j)) → j ≡ small_at r first_place → b ≡ v
+      → ltb leaf_size (length (numbers_of links k (small_at r first_place))) ≡ v
+  longer_is leaf_size j b v e f g = sym (e ∙ ap (λ (i : ℕ). ltb leaf_size (length (numbers_of links k i))) f) ∙ g
 
   -- the best split, by the right ends `es` and the list that starts at `j`
   best_same : (es : List ℕ) (j : ℕ) → es ≡ ends (segments_in r) → j ≡ small_at r first_place
@@ -50,18 +42,18 @@ returns-then-node_small-ne0 c =
     let g = c.args in
     sym (split_inner g.leaf_size (stored_in g.samples.now g.n g.k) g.nodes.now g.links.now g.count g.at (λ e. c.if-node_small-ne0.true (c.node_small.ensures ∙ e)))
 
-pub list_size-traces-requires : goal.list_size-traces-requires
-list_size-traces-requires c =
+pub leaf_longer-longer-requires : goal.leaf_longer-longer-requires
+leaf_longer-longer-requires c =
     let g = c.args in
     let p = (c.requires.is_leaf (sym c.node_small.ensures ∙ c.if-node_small-ne0.false)).stored in
-    subst (λ (j : ℕ). (j < g.k) × (g.k ≤ most_traces) × (g.k ≤ length g.links.now) × Rising g.links.now g.k)
-    (sym c.node_small-head.ensures) (p.inside, p.few, p.links_room, p.rising)
+    subst (λ (j : ℕ). (j < g.k) × (g.k ≤ length g.links.now) × Rising g.links.now g.k)
+    (sym c.node_small-head.ensures) (p.inside, p.links_room, p.rising)
 
-pub returns-then-traces-leaf_size : goal.returns-then-traces-leaf_size
-returns-then-traces-leaf_size c =
+pub returns-then-not-longer : goal.returns-then-not-longer
+returns-then-not-longer c =
     let g = c.args in
-    let e = is_short g.nodes.now g.links.now g.samples.now g.n g.k g.at g.leaf_size c.node_small-head.result c.list_size-traces.result
-    c.list_size-traces.ensures.value c.node_small-head.ensures c.if-traces-leaf_size.true in
+    let e = longer_is g.nodes.now g.links.now g.samples.now g.n g.k g.at g.leaf_size c.node_small-head.result c.leaf_longer-longer.result false
+    c.leaf_longer-longer.ensures c.node_small-head.ensures c.if-not-longer.true in
     sym (short_stays g.leaf_size (stored_in g.samples.now g.n g.k) g.nodes.now g.links.now g.count g.at g.k (stored_size g.samples.now g.n g.k)
     (sym c.node_small.ensures ∙ c.if-node_small-ne0.false) e)
 
@@ -93,8 +85,8 @@ returns-in-None c =
     let g = c.args in
     let t = stored_in g.samples.now g.n g.k in
     let j = c.node_small-head.result in
-    let longer = is_long g.nodes.now g.links.now g.samples.now g.n g.k g.at g.leaf_size j c.list_size-traces.result
-    c.list_size-traces.ensures.value c.node_small-head.ensures c.if-traces-leaf_size.false in
+    let longer = longer_is g.nodes.now g.links.now g.samples.now g.n g.k g.at g.leaf_size j c.leaf_longer-longer.result true
+    c.leaf_longer-longer.ensures c.node_small-head.ensures c.if-not-longer.false in
     let ends_are = c.ends_of-e.ensures.result_value ∙ ap (λ (r : List ℤ). ends (segments_in r)) c.record_at.ensures in
     let same = best_same g.nodes.now g.links.now g.samples.now g.n g.k g.at (ends_of c.ends_of-e.result) j ends_are c.node_small-head.ensures in
     sym (long_splits g.leaf_size t g.nodes.now g.links.now g.count g.at g.k (stored_size g.samples.now g.n g.k)
@@ -131,8 +123,8 @@ returns-in-Some c =
     let j = c.node_small-head.result in
     let all = ends_of c.ends_of-e.result in
     let listed = numbers_of g.links.now g.k j in
-    let longer = is_long g.nodes.now g.links.now g.samples.now g.n g.k g.at g.leaf_size j c.list_size-traces.result
-    c.list_size-traces.ensures.value c.node_small-head.ensures c.if-traces-leaf_size.false in
+    let longer = longer_is g.nodes.now g.links.now g.samples.now g.n g.k g.at g.leaf_size j c.leaf_longer-longer.result true
+    c.leaf_longer-longer.ensures c.node_small-head.ensures c.if-not-longer.false in
     let ends_are = c.ends_of-e.ensures.result_value ∙ ap (λ (r : List ℤ). ends (segments_in r)) c.record_at.ensures in
     let same = best_same g.nodes.now g.links.now g.samples.now g.n g.k g.at all j ends_are c.node_small-head.ensures in
     let two : g.count + 2 ≡ suc (suc g.count) = omega arith in

@@ -22,6 +22,12 @@ pub struct Cursor {
 }
 
 impl Cursor {
+    pub fn first() -> Cursor
+        ensures { result.number ≡ 0 }
+    {
+        Cursor { number: 0, used: 0 }
+    }
+
     // At a sample by its number: "253 samples each", or 126, from block 1 on.
     pub fn at_sample(i: usize, format: Format) -> Cursor
         requires { i < most_blocks * (format_by format).samples_per_block }
@@ -146,12 +152,16 @@ pub fn first_torn(sheet: &[u8], format: Format) -> Result<(), Refusal>
     requires { InBlocks sheet.now }
     ensures { found_by result ≡ first_of (torn_conditions (format_by format) 0 0 (blocks_in sheet.now)) }
 {
-    for number in 0..sheet.len() / 512 {
-        let from = number * 512;
+    let count = sheet.len() / 512;
+    let mut cursor = Cursor::first();
+    while cursor.number < count {
+        let from = cursor.start();
+        let number = cursor.number;
         let before = kind_before(sheet, number);
         if is_torn(&sheet[from..from + 512], before, number as u64, format) {
             return Err(Refusal::TornBlock(number as u64));
         }
+        cursor = cursor.next();
     }
     Ok(())
 }

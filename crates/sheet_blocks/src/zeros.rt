@@ -7,6 +7,7 @@ ghost use Rattle.sheet.specs.Formats.{format_by};
 ghost use Rattle.sheet_blocks.specs.Blocks.{InBlocks, block_count, block_at, later_blocks, label_start, RightNumbers};
 ghost use Rattle.sheet_blocks.specs.Blocks.{cells_between, spare_between, zeros_between, Fills};
 
+use crate::blocks::Cursor;
 use sheet::formats::Format;
 
 // The bytes from one place to another.
@@ -22,10 +23,14 @@ fn thirds_zero(sheet: &[u8]) -> bool
     requires { InBlocks sheet.now }
     ensures { result ≡ are_zero (thirds_in (blocks_in sheet.now)) }
 {
-    for number in 0..sheet.len() / 512 {
-        if sheet[number * 512 + 3] != 0 {
+    let count = sheet.len() / 512;
+    let mut cursor = Cursor::first();
+    while cursor.number < count {
+        let third = cursor.start() + 3;
+        if sheet[third] != 0 {
             return false;
         }
+        cursor = cursor.next();
     }
     true
 }

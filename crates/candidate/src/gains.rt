@@ -66,7 +66,8 @@ fn side_spread(
     };
     let some = Rows {
         traces,
-        table: rows.table,
+        place: rows.place,
+        columns: rows.columns,
     };
     spread_along(some, halved_by(c.column), child)
 }

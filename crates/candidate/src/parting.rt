@@ -24,17 +24,34 @@ pub fn look_along(rows: Rows, c: Trial, threshold: i64) -> Look
     requires { Inside rows.traces.n c.on.first c.on.last }
     ensures { result ≡ look_of (stored_of rows.entry.traces) (trial_test c threshold) rows.entry.traces.list.now }
 {
-    let list = rows.traces.list;
+    let traces = rows.traces;
+    let list = traces.list;
     if list.len() == 0 {
         return Look {
             both: false,
             taken: 0,
         };
     }
-    let column = rows.column_of(c.column, c.on);
-    let side = goes_left_at(rows, column, usize::from(list[0]), c, threshold);
+    let kept = rows.kept_on(c.column, c.on);
+    let side = goes_left_at(
+        traces.samples,
+        traces.n,
+        rows.place,
+        kept,
+        usize::from(list[0]),
+        c,
+        threshold,
+    );
     for i in 1..list.len() {
-        let goes = goes_left_at(rows, column, usize::from(list[i]), c, threshold);
+        let goes = goes_left_at(
+            traces.samples,
+            traces.n,
+            rows.place,
+            kept,
+            usize::from(list[i]),
+            c,
+            threshold,
+        );
         if goes != side {
             return Look {
                 both: true,

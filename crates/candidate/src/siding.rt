@@ -3,12 +3,15 @@
 ghost use Rattle.std.specs.Prelude.{◌≡◌, ◌≤◌, length, take, IfSome};
 ghost use Rattle.dstree.specs.Measures.{most_traces};
 ghost use Rattle.dstree.specs.Node.{sends_left};
+ghost use Rattle.tables.specs.View.{trace_in};
 ghost use Rattle.tables.specs.Runs.{Inside, RunOfTrace};
-ghost use Rattle.leaf_figures.specs.Rows.{RowOf, trace_of};
+ghost use Rattle.leaf_figures.specs.Rows.{RowOf};
 ghost use Rattle.candidate.specs.Siding.{trial_test, side_of};
 
-use leaf_figures::rows::Rows;
-use leaf_figures::table::{Column, Run};
+use leaf_figures::rows::{Rows, figures_at};
+use leaf_figures::table::Run;
+use segment::Word;
+use segment::figures::Figures;
 use tables::runs::is_left;
 
 // A candidate: a run, its figure (a flag, as `tables::runs` takes it), and where the children's segments are cut, if anywhere. Its column
@@ -21,13 +24,20 @@ pub struct Trial {
     pub column: Option<usize>,
 }
 
-// Whether trace t goes left, by its figures from a column or from its samples.
-pub fn goes_left_at(rows: Rows, column: Option<&Column>, t: usize, c: Trial, threshold: i64) -> bool
-    requires { RunOfTrace rows.traces.samples.now rows.traces.n t c.on.first c.on.last
-        × IfSome column (λ x. RowOf rows.traces rows.table.now.place c.on x.now.figures t) }
-    ensures { result ≡ sends_left (trial_test c threshold) (trace_of rows.entry.traces t) }
+// Whether trace t goes left, by its figures from those that are kept or from its samples.
+pub fn goes_left_at(
+    samples: &[Word],
+    n: usize,
+    place: &[u16],
+    kept: Option<&[Figures]>,
+    t: usize,
+    c: Trial,
+    threshold: i64,
+) -> bool
+    requires { RunOfTrace samples.now n t c.on.first c.on.last × IfSome kept (λ k. RowOf (trace_in samples.now n t) place.now c.on k.now t) }
+    ensures { result ≡ sends_left (trial_test c threshold) (trace_in samples.now n t) }
 {
-    let own = rows.figures_at(column, t, c.on);
+    let own = figures_at(samples, n, place, kept, t, c.on);
     is_left(own.sum, own.scatter, c.by_scatter, threshold)
 }
 
@@ -38,11 +48,13 @@ pub fn list_side(rows: Rows, c: Trial, threshold: i64, left: bool, side: &mut [u
     ensures few { result ≤ most_traces }
     ensures size { length side.new ≡ most_traces }
 {
-    let column = rows.column_of(c.column, c.on);
-    let list = rows.traces.list;
+    let kept = rows.kept_on(c.column, c.on);
+    let traces = rows.traces;
+    let list = traces.list;
     let mut most: usize = 0;
     for &number in list {
-        let goes = goes_left_at(rows, column, usize::from(number), c, threshold);
+        let t = usize::from(number);
+        let goes = goes_left_at(traces.samples, traces.n, rows.place, kept, t, c, threshold);
         side[most] = number;
         most += usize::from(left == goes);
     }

@@ -35,7 +35,8 @@ pub fn walk_of(leaf: StoredLeaf, by_scatter: bool, threshold: i64) -> Look
     };
     let rows = Rows {
         traces,
-        table: &table,
+        place: &table.place,
+        columns: &table.columns,
     };
     let c = Trial {
         on: Run {

@@ -51,9 +51,8 @@ no_columns l = record { places = length-replicate {A = Column} 48 no_column; col
     none = record { places = length-replicate {A = Figures} 65 no_figures_yet; rows = λ on some. absurd (cc some) }
 
 -- with no column a table says nothing, so that it serves any list
-pub no_rows : (l : Listed) (place : List ℕ) → HasRows l (record { place = place; columns = replicate 48 no_column })
+pub no_rows : (l : Listed) (place : List ℕ) → HasRows l place (replicate 48 no_column)
 no_rows l place = record {
-  places = length-replicate {A = Column} 48 no_column;
   rows = λ f on some. absurd (none (sym (ap (λ (x : Column). x.run) (no_run 48 f)) ∙ some));
 }
   where
@@ -61,11 +60,10 @@ no_rows l place = record {
     none e = absurd (cc e)
 
 -- columns in the list's order are rows by its numbers
-pub rows_of : (l : Listed) (table : Table) → PlacesInList l.list.now table.place → Columns l table.columns → HasRows l table
+pub rows_of : (l : Listed) (table : Table) → PlacesInList l.list.now table.place → Columns l table.columns → HasRows l table.place table.columns
 rows_of l table p c = record {
-  places = c.places;
   rows = λ f on some. record {
-    placed = p.inside;
+    placed = λ t i. omega (arith, p.inside t i, p.places);
     kept = λ t i. subst (λ (u : ℕ). FiguresAt (trace_of l u) on (get_or table.columns f no_column).figures (get_or table.place t 0)) (p.back t i)
         ((c.column f).rows on some (get_or table.place t 0) (p.row t i));
   };

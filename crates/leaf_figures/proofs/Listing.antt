@@ -12,19 +12,19 @@ use lib.ListN.{length, get_or, set, take}
 use lib.Seq.{take-suc, take-suc-set, get_or-set_same, get_or-set_other}
 use Rattle.integer.proofs.Lists.{In, in_snoc, same_or_not}
 use Rattle.tables.specs.Runs.{Inside, RunOfTrace}
-use Rattle.leaf_figures.specs.Rows.{RowsOn, RowOf}
+use Rattle.segment.specs.declared.figures.Figures.{Figures}
+use Rattle.leaf_figures.specs.Rows.{RowsOn, RowOf, trace_of}
 use Rattle.leaf_figures.specs.declared.listed.Listed.{Listed}
 use Rattle.leaf_figures.specs.declared.table.Run.{Run}
-use Rattle.leaf_figures.specs.declared.table.Column.{Column}
 
 -- a listed trace lies in the samples whole, and so do its runs
 pub listed_run : (l : Listed) (on : Run) (t : ℕ) → In t l.list.now → Inside l.n on.first on.last → RunOfTrace l.samples.now l.n t on.first on.last
 listed_run l on t i inside = record { narrow = l.inside.narrow; room = l.inside.inside t i; inside = inside }
 
 -- where the figures of all traces of a list stand in their rows, those of one of them do
-pub listed_row : (l : Listed) (place : List ℕ) (on : Run) (column : Option (Bor Column)) (t : ℕ) → In t l.list.now
-    → IfSome column (λ c. RowsOn l place on c.now.figures) → IfSome column (λ c. RowOf l place on c.now.figures t)
-listed_row l place on column t i h = IfSome_then column h (λ c r. record { placed = r.placed t i; kept = r.kept t i })
+pub listed_row : (l : Listed) (place : List ℕ) (on : Run) (kept : Option (Bor (List Figures))) (t : ℕ) → In t l.list.now
+    → IfSome kept (λ k. RowsOn l place on k.now) → IfSome kept (λ k. RowOf (trace_of l t) place on k.now t)
+listed_row l place on kept t i h = IfSome_then kept h (λ k r. record { placed = r.placed t i; kept = r.kept t i })
 
 -- one place more
 pub in_more : (l : List ℕ) (i : ℕ) {t : ℕ} → i < length l → In t (take (i + 1) l) → In t (take i l) ⊎ (t ≡ get_or l i 0)

@@ -13,7 +13,6 @@ pub use Rattle.leaf_figures.specs.Listed.{traces_at}
 use Rattle.leaf_figures.specs.declared.listed.Listed.{Listed}
 use Rattle.leaf_figures.specs.declared.table.Run.{Run}
 use Rattle.leaf_figures.specs.declared.table.Column.{Column}
-use Rattle.leaf_figures.specs.declared.table.Table.{Table}
 
 -- the halves of a run, the left one rounded down
 abbrev pub left_half : Run → Run
@@ -61,20 +60,18 @@ abbrev pub stored_of : Listed → List Trace
 stored_of l = stored_in l.samples.now l.n l.k
 
 -- trace t's figures on a run stand in its row
-pub record RowOf (l : Listed) (place : List ℕ) (on : Run) (figures : List Figures) (t : ℕ) : Type 0 where
-  pub placed : t < most_traces
-  pub kept : FiguresAt (trace_of l t) on figures (get_or place t 0)
+pub record RowOf (x : Trace) (place : List ℕ) (on : Run) (figures : List Figures) (t : ℕ) : Type 0 where
+  pub placed : t < length place
+  pub kept : FiguresAt x on figures (get_or place t 0)
 
 -- the figures of some traces on a run stand in their rows
 pub record RowsOn (l : Listed) (place : List ℕ) (on : Run) (figures : List Figures) : Type 0 where
-  pub placed : (t : ℕ) → In t l.list.now → t < most_traces
+  pub placed : (t : ℕ) → In t l.list.now → t < length place
   pub kept : (t : ℕ) → In t l.list.now → FiguresAt (trace_of l t) on figures (get_or place t 0)
 
--- 48 runs may have a column of 65 figures each. Trace t is in row `place` t of a column
-pub record HasRows (l : Listed) (table : Table) : Type 0 where
-  pub places : length table.columns ≡ most_runs
-  pub rows : (f : ℕ) (on : Run) → (get_or table.columns f no_column).run ≡ Some on
-      → RowsOn l table.place on (get_or table.columns f no_column).figures
+-- each column that has a run has the figures of the traces on it. Trace t is in row `place` t of a column
+pub record HasRows (l : Listed) (place : List ℕ) (columns : List Column) : Type 0 where
+  pub rows : (f : ℕ) (on : Run) → (get_or columns f no_column).run ≡ Some on → RowsOn l place on (get_or columns f no_column).figures
 
 -- ---- while the table is made
 

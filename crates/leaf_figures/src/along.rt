@@ -7,7 +7,7 @@ ghost use Rattle.tables.specs.Runs.{Inside};
 ghost use Rattle.leaf_figures.specs.Sides.{SmallFigures, segment_by};
 ghost use Rattle.leaf_figures.specs.Rows.{all_traces};
 
-use crate::rows::Rows;
+use crate::rows::{Rows, figures_at};
 use crate::sides::{NO_TRACE, SideRange, widened};
 use crate::table::Run;
 
@@ -18,11 +18,19 @@ pub fn figures_along(rows: Rows, guess: Option<usize>, on: Run) -> SideRange
         ≡ segment_of (all_traces rows.entry.traces) (run on.first on.last) }
     ensures small { SmallFigures result }
 {
-    let column = rows.column_of(guess, on);
-    let list = rows.traces.list;
+    let kept = rows.kept_on(guess, on);
+    let traces = rows.traces;
+    let list = traces.list;
     let mut f: Option<SideRange> = None;
     for &number in list {
-        let own = rows.figures_at(column, usize::from(number), on);
+        let own = figures_at(
+            traces.samples,
+            traces.n,
+            rows.place,
+            kept,
+            usize::from(number),
+            on,
+        );
         f = Some(widened(f, own.sum, own.scatter));
     }
     f.unwrap_or(NO_TRACE)

@@ -195,7 +195,8 @@ fn best_kept(traces: Listed, e: Ends) -> Option<Choice>
     fill_rows(traces, e, &mut table.columns);
     let rows = Rows {
         traces,
-        table: &table,
+        place: &table.place,
+        columns: &table.columns,
     };
     best_along(rows, e)
 }

@@ -35,7 +35,7 @@ pub invariant_of-some : goal.invariant_of-some
 invariant_of-some c =
     let l = c.args.rows.traces in
     let g = c.list_side-many in record {
-      rows = rows_among l _ c.args.rows.table.now refl refl
+      rows = rows_among l _ c.args.rows.place.now c.args.rows.columns.now refl refl
           (λ t i. side_in l (trial_test c.args.c (read w64 c.args.threshold)) c.args.left (subst (In t) g.ensures.side_after i)) c.args.rows.rows;
     }
 

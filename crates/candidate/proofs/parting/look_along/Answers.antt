@@ -57,7 +57,7 @@ goes_left_at-side-requires c =
     let t = c.from.result in
     let l = a.rows.traces in
     let i = listed l 0 (omega (arith, c.if-list-eq0.false)) c.from.ensures in
-    (listed_run l a.c.on t i c.requires, listed_row l a.rows.table.now.place a.c.on c.column_of-column.result t i c.column_of-column.ensures.rows)
+    (listed_run l a.c.on t i c.requires, listed_row l a.rows.place.now a.c.on c.kept_on-kept.result t i c.kept_on-kept.ensures)
 
 pub loop-i-init : goal.loop-i-init
 loop-i-init c =
@@ -73,7 +73,7 @@ goes_left_at-goes-requires c =
     let t = c.from-in-loop-i.result in
     let l = a.rows.traces in
     let i = listed l c.loop-i.i c.loop-i-test.true c.from-in-loop-i.ensures in
-    (listed_run l a.c.on t i c.requires, listed_row l a.rows.table.now.place a.c.on c.column_of-column.result t i c.column_of-column.ensures.rows)
+    (listed_run l a.c.on t i c.requires, listed_row l a.rows.place.now a.c.on c.kept_on-kept.result t i c.kept_on-kept.ensures)
 
 pub returns-then-goes-side : goal.returns-then-goes-side
 returns-then-goes-side c =

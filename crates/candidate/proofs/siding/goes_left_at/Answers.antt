@@ -11,8 +11,8 @@ use Prim.Native.Nat.{◌≤◌}
 use Rattle.segment.specs.Limits.{sum_most}
 use Rattle.dstree.specs.Measures.{most_samples}
 use Rattle.segment.specs.Roots.{floor_root}
+use Rattle.tables.specs.View.{trace_in}
 use Rattle.tables.proofs.Compared.{left_is}
-use Rattle.leaf_figures.specs.Rows.{trace_of}
 use Rattle.candidate.proofs.siding.goes_left_at.Goals as goal
 
 -- the sum as it is handed on
@@ -28,4 +28,4 @@ returns c =
     let g = c.figures_at-own in
     c.is_left.ensures
     ∙ ap₂ (λ (z t : ℤ). le_z (pos 2 *ℤ (if a.c.by_scatter then pos (floor_root g.result.scatter) else z)) t) (sum_read g.result.sum g.ensures.sum_small) (to_z-of_z c.ranges.threshold)
-    ∙ left_is a.c.on.first a.c.on.last (trace_of a.rows.traces a.t) g.ensures.sum_is g.ensures.scatter_is a.c.by_scatter a.threshold
+    ∙ left_is a.c.on.first a.c.on.last (trace_in a.samples.now a.n a.t) g.ensures.sum_is g.ensures.scatter_is a.c.by_scatter a.threshold

@@ -25,10 +25,10 @@ use Rattle.candidate.proofs.siding.list_side.Goals as goal
 pub goes_left_at-goes-requires : goal.goes_left_at-goes-requires
 goes_left_at-goes-requires c =
     let a = c.args in
-    let t = c.from.result in
+    let t = c.from-t.result in
     let l = a.rows.traces in
-    let listed = subst (λ (u : ℕ). In u l.list.now) (sym c.from.ensures) (in_get_or l.list.now c.loop-number.number-index 0 c.loop-number-test.true) in
-    (listed_run l a.c.on t listed c.requires.0, listed_row l a.rows.table.now.place a.c.on c.column_of-column.result t listed c.column_of-column.ensures.rows)
+    let listed = subst (λ (u : ℕ). In u l.list.now) (sym c.from-t.ensures) (in_get_or l.list.now c.loop-number.number-index 0 c.loop-number-test.true) in
+    (listed_run l a.c.on t listed c.requires.0, listed_row l a.rows.place.now a.c.on c.kept_on-kept.result t listed c.kept_on-kept.ensures)
 
 pub loop-number-preserved : goal.loop-number-preserved
 loop-number-preserved c =
@@ -40,7 +40,7 @@ loop-number-preserved c =
     let x = get_or list l.number-index 0 in
     let b : Bool = on_side a.left (sends_left test (trace_of traces x)) in
     let goes : c.goes_left_at-goes.result ≡ sends_left test (trace_of traces x) =
-    c.goes_left_at-goes.ensures ∙ ap (λ (u : ℕ). sends_left test (trace_of traces u)) c.from.ensures in
+    c.goes_left_at-goes.ensures ∙ ap (λ (u : ℕ). sends_left test (trace_of traces u)) c.from-t.ensures in
     let on : beq a.left c.goes_left_at-goes.result ≡ b = on_same a.left c.goes_left_at-goes.result ∙ ap (on_side a.left) goes in
     let e : l.most + c.from-most.result ≡ (if b then suc l.most else l.most) =
     ap (λ (m : ℕ). l.most + m) (c.from-most.ensures ∙ ap bool_byte on) ∙ counted_is b l.most in

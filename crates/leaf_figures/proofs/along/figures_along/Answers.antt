@@ -24,7 +24,7 @@ figures_at-own-requires c =
     let l = a.rows.traces in
     let t = c.from.result in
     let listed = subst (λ (u : ℕ). In u l.list.now) (sym c.from.ensures) (in_get_or l.list.now c.loop-number.number-index 0 c.loop-number-test.true) in
-    (listed_run l a.on t listed c.requires, listed_row l a.rows.table.now.place a.on c.column_of-column.result t listed c.column_of-column.ensures.rows)
+    (listed_run l a.on t listed c.requires, listed_row l a.rows.place.now a.on c.kept_on-kept.result t listed c.kept_on-kept.ensures)
 
 pub loop-number-preserved : goal.loop-number-preserved
 loop-number-preserved c =

@@ -1,32 +1,32 @@
--- `leaf_figures::rows::Rows::column_of` meets its contract: the column that is answered has passed the tests.
-use Rattle.std.specs.Prelude.{Some, ◌&&◌}
-use Rattle.std.proofs.lemmas.Bool.Decides.{nat_tests}
-use mathlib.Core.Path.{◌≡◌, sym, ap, ap₂, subst, ◌∙◌}
-use mathlib.Core.Bool.{true}
+-- `leaf_figures::rows::Rows::column_of` meets its contract: a column that has the run has the traces' figures on it.
+use Rattle.std.specs.Prelude.{Option, Some, None, IfSome, unwrap_or}
+use Rattle.std.specs.Borrow.{Bor}
+use mathlib.Core.Path.{◌≡◌, sym, ap, subst, ◌∙◌}
+use mathlib.Core.List.{List}
 use Prim.Native.Nat.{ℕ}
-use native.Mathlib.Omega.{arith}
 use lib.ListN.{get_or}
-use lib.Dec.{eqb}
-use Rattle.leaf_figures.specs.Rows.{RowsOn, no_column}
+use Rattle.leaf_figures.specs.Rows.{HasRows, RowsOn, no_column}
+use Rattle.leaf_figures.specs.declared.listed.Listed.{Listed}
 use Rattle.leaf_figures.specs.declared.table.Run.{Run}
 use Rattle.leaf_figures.specs.declared.table.Column.{Column}
 use Rattle.leaf_figures.proofs.rows.Rows.column_of.Goals as goal
 
-both_same : (a b c d : ℕ) → true ≡ (eqb a b && eqb c d) → (a ≡ b) × (c ≡ d)
-both_same a b c d e = (grind (arith, nat_tests), grind (arith, nat_tests))
+-- what is at the guess and has the run has the figures
+rows_at : (l : Listed) (place : List ℕ) (columns : List Column) (f : ℕ) (on : Run) (c : Column) → HasRows l place columns → c ≡ get_or columns f no_column → c.run ≡ Some on
+    → RowsOn l place on c.figures
+rows_at l place columns f on c h is has =
+    subst (λ (x : Column). RowsOn l place on x.figures) (sym is) (h.rows f on (ap (λ (x : Column). x.run) (sym is) ∙ has))
 
-same_run : (a b : Run) → true ≡ (eqb a.first b.first && eqb a.last b.last) → a ≡ b
-same_run a b e = let s = both_same a.first b.first a.last b.last e in ap₂ (λ (x y : ℕ). record { first = x; last = y }) s.0 s.1
+rows_in : (l : Listed) (place : List ℕ) (columns : List Column) (f : ℕ) (on : Run) → HasRows l place columns → (column : Option (Bor Column))
+    → IfSome column (λ c. c.now ≡ get_or columns f no_column) → IfSome column (λ c. c.now.run ≡ Some on) → IfSome column (λ c. RowsOn l place on c.now.figures)
+rows_in l place columns f on h None is has = tt
+rows_in l place columns f on h (Some c) is has = rows_at l place columns f on c.now h is has
 
-pub returns-then-eq : goal.returns-then-eq
-returns-then-eq c =
-    let table = c.args.self.table.now in
-    let f = c.in_ok-guess.field-0 in
-    let column = c.in_ok-column.column.now in
-    let is : column ≡ get_or table.columns f no_column = c.in_ok-column.ensures.lookup.3.1 no_column in
-    let on = same_run c.in_ok-column-2.field-0 c.args.on c.if-eq.ensures in
-    let of_run = c.in_ok-column-2.was ∙ ap Some on in record {
-      rows = subst (λ (x : Column). RowsOn c.args.self.traces table.place c.args.on x.figures) (sym is)
-          (c.args.self.rows.rows f c.args.on (ap (λ (x : Column). x.run) (sym is) ∙ of_run));
-      of_run = of_run;
+pub returns : goal.returns
+returns c =
+    let a = c.args in
+    let g = c.column_of in
+    record {
+      rows = rows_in a.self.traces a.self.place.now a.self.columns.now (unwrap_or a.guess 0) a.on a.self.rows g.result g.ensures.at_guess g.ensures.of_run;
+      of_run = g.ensures.of_run;
     }

@@ -1,2 +1,3 @@
--- Lists in parts.
+-- Lists in parts; what stays through two calls.
 pub mod Parts
+pub mod Stays

@@ -1,12 +1,12 @@
 // The examples of document 01, and some of document 02, run: what each call answers, held to the file stdout; walks along a leaf, and
-// distances with a limit. A step answers values, with a contract (`steps`); here the steps are put together, and printed. Most functions
-// that print alone, in memory of their own, have no contract.
+// distances with a limit. A step answers values, with a contract (`steps`); here the steps are put together, and printed. A function
+// that prints alone, in memory of its own, promises only that a write that failed is not forgotten.
 #![tactic(auto)]
 
 mod steps; // traces added, queries matched, a sheet written
 mod walks; // a candidate's test, along a leaf
 
-ghost use Rattle.std.specs.Prelude.{◌≡◌, [], ◌∷◌, ◌<◌, ◌≤◌, length, IsErr};
+ghost use Rattle.std.specs.Prelude.{◌≡◌, [], ◌∷◌, ◌<◌, ◌≤◌, length, IsErr, IfOk};
 ghost use Rattle.dstree.specs.Book.{writing};
 ghost use Rattle.dstree.specs.Measures.{most_samples};
 ghost use Rattle.tables.specs.Lent.{tables_after, tables_after_adding, tables_after_search, tables_before_adding, tables_before_all, tables_before_search};
@@ -30,7 +30,7 @@ use tables::Refusal;
 // when the program is run
 
 fn print_refusal(out: &mut Screen, why: Refusal)
-    ensures { IsErr out.old.written → out.new.written ≡ out.old.written }
+    ensures { IsErr out.old → out.new ≡ out.old }
 {
     let number = tables::answers::number(why);
     let place = tables::answers::place(why);
@@ -38,7 +38,9 @@ fn print_refusal(out: &mut Screen, why: Refusal)
 }
 
 // Of a call that answers only that it succeeded.
-fn print_done(out: &mut Screen, done: &str, answer: Result<(), Refusal>) {
+fn print_done(out: &mut Screen, done: &str, answer: Result<(), Refusal>)
+    ensures { IsErr out.old → out.new ≡ out.old }
+{
     match answer {
         Ok(()) => print!(out; "{done}"),
         Err(why) => print_refusal(out, why),
@@ -46,7 +48,9 @@ fn print_done(out: &mut Screen, done: &str, answer: Result<(), Refusal>) {
     println!(out);
 }
 
-fn print_adding(out: &mut Screen, step: AddingStep) {
+fn print_adding(out: &mut Screen, step: AddingStep)
+    ensures { IsErr out.old → out.new ≡ out.old }
+{
     let AddingStep { answer, nodes } = step;
     match answer {
         Ok(k) => print!(out; "added {k}"),
@@ -55,7 +59,9 @@ fn print_adding(out: &mut Screen, step: AddingStep) {
     println!(out; "\n  nodes {nodes}");
 }
 
-fn print_query(out: &mut Screen, samples: &[Sample]) {
+fn print_query(out: &mut Screen, samples: &[Sample])
+    ensures { IsErr out.old → out.new ≡ out.old }
+{
     print!(out; "match");
     for x in samples {
         print!(out; " {}", *x);
@@ -64,14 +70,18 @@ fn print_query(out: &mut Screen, samples: &[Sample]) {
 }
 
 // The leaves read, which the trail begins with.
-fn print_trail(out: &mut Screen, trail: &[u16], leaves: u64) {
+fn print_trail(out: &mut Screen, trail: &[u16], leaves: u64)
+    ensures { IsErr out.old → out.new ≡ out.old }
+{
     print!(out; " trail");
     for node in trail.iter().take(leaves as usize) {
         print!(out; " {}", *node);
     }
 }
 
-fn print_match(out: &mut Screen, step: MatchStep) {
+fn print_match(out: &mut Screen, step: MatchStep)
+    ensures { IsErr out.old → out.new ≡ out.old }
+{
     let MatchStep { answer, trail } = step;
     match answer {
         Ok(
@@ -91,7 +101,9 @@ fn print_match(out: &mut Screen, step: MatchStep) {
 }
 
 // "Bytes 510 to 511" of block 0 and of block 1.
-fn print_checks(out: &mut Screen, sheet: &[u8]) {
+fn print_checks(out: &mut Screen, sheet: &[u8])
+    ensures { IsErr out.old → out.new ≡ out.old }
+{
     if 1024 <= sheet.len() {
         let first = sheet::fields::two_bytes(sheet, 510);
         let second = sheet::fields::two_bytes(sheet, 1022);
@@ -99,7 +111,9 @@ fn print_checks(out: &mut Screen, sheet: &[u8]) {
     }
 }
 
-fn print_writing(out: &mut Screen, answer: Result<u64, Refusal>, sheet: &[u8]) {
+fn print_writing(out: &mut Screen, answer: Result<u64, Refusal>, sheet: &[u8])
+    ensures { IsErr out.old → out.new ≡ out.old }
+{
     match answer {
         Ok(blocks) => {
             print!(out; "blocks {blocks}");
@@ -111,12 +125,16 @@ fn print_writing(out: &mut Screen, answer: Result<u64, Refusal>, sheet: &[u8]) {
 }
 
 // Whether both sides were seen, and how many traces that took.
-fn print_walk(out: &mut Screen, words: &str, seen: Look) {
+fn print_walk(out: &mut Screen, words: &str, seen: Look)
+    ensures { IsErr out.old → out.new ≡ out.old }
+{
     let both = if seen.both { "yes" } else { "no" };
     println!(out; "{words}: {both}, took {}", seen.taken);
 }
 
-fn print_distance(out: &mut Screen, answer: Distance) {
+fn print_distance(out: &mut Screen, answer: Distance)
+    ensures { IsErr out.old → out.new ≡ out.old }
+{
     match answer {
         Distance::Exact(d) => println!(out; "exact {d}"),
         Distance::Beyond(samples) => println!(out; "beyond {samples}"),
@@ -159,7 +177,9 @@ fn opening_of(
     n: u64,
     capacity: u64,
     leaf_size: u64,
-) -> Result<(), AllocError> {
+) -> Result<(), AllocError>
+    ensures { IsErr out.old → out.new ≡ out.old }
+{
     print!(out; "open {n} {capacity} {leaf_size}: ");
     print_done(
         out,
@@ -169,7 +189,9 @@ fn opening_of(
     Ok(())
 }
 
-fn run_openings(out: &mut Screen, alloc: Global) -> Result<(), AllocError> {
+fn run_openings(out: &mut Screen, alloc: Global) -> Result<(), AllocError>
+    ensures { IsErr out.old → out.new ≡ out.old }
+{
     opening_of(out, alloc, 256, 4096, 64)?;
     opening_of(out, alloc, 1, 1, 1)?;
     opening_of(out, alloc, 257, 4096, 64)?;
@@ -203,9 +225,10 @@ fn add_all(
     traces: &[Sample],
 )
     requires { 0 < n }
-    ensures { tables_after_adding control samples nodes links work labels
+    ensures tables { tables_after_adding control samples nodes links work labels
         ≡ added_each (tables_before_adding control samples nodes links work labels)
         (parts n traces.now) }
+    ensures failure { IsErr out.old → out.new ≡ out.old }
 {
     for trace in traces.chunks(n) {
         print_adding(
@@ -228,9 +251,10 @@ fn match_all(
     queries: &[Sample],
 )
     requires { 0 < n }
-    ensures { tables_after_search control samples nodes links work labels
+    ensures tables { tables_after_search control samples nodes links work labels
         ≡ matched_each (tables_before_search control samples nodes links work labels)
         (parts n queries.now) }
+    ensures failure { IsErr out.old → out.new ≡ out.old }
 {
     for query in queries.chunks(n) {
         print_query(out, query);
@@ -244,6 +268,7 @@ fn match_all(
 // A library with a capacity of 8, in tables with junk in every place.
 fn library(out: &mut Screen, n: u16, leaf_size: u64, traces: &[Sample], queries: &[Sample])
     requires { 0 < n }
+    ensures { IsErr out.old → out.new ≡ out.old }
 {
     let mut control = [7u16; 5];
     let mut samples: [Word; 32] = [7; 32];
@@ -290,7 +315,9 @@ fn library(out: &mut Screen, n: u16, leaf_size: u64, traces: &[Sample], queries:
     );
 }
 
-fn run_libraries(out: &mut Screen) {
+fn run_libraries(out: &mut Screen)
+    ensures { IsErr out.old → out.new ≡ out.old }
+{
     // "n = 4, leaf size 2, capacity 8: add A (0,0,0,0), B (4,4,4,4), C (0,8,0,8)", then a trace of another length
     library(
         out,
@@ -317,7 +344,8 @@ fn run_libraries(out: &mut Screen) {
 
 // The starred example, written to a sheet with junk in every place.
 fn write_to(out: &mut Screen, sheet: &mut [u8], words: &str)
-    ensures { sheet.new ∷ [] ≡ (outcome_on (writing sheet.old) (starred_in junk)).beside }
+    ensures sheet { sheet.new ∷ [] ≡ (outcome_on (writing sheet.old) (starred_in junk)).beside }
+    ensures failure { IsErr out.old → out.new ≡ out.old }
 {
     let mut control = [7u16; 5];
     let mut samples: [Word; 8] = [7; 8];
@@ -360,9 +388,10 @@ fn read_one(
     labels: &mut [u64],
     sheet: &[u8],
 )
-    ensures { tables_after control samples nodes links work labels
+    ensures tables { tables_after control samples nodes links work labels
         ≡ read_matched (tables_before_all control samples nodes links work labels)
         sheet.now }
+    ensures failure { IsErr out.old → out.new ≡ out.old }
 {
     print_done(
         out,
@@ -384,9 +413,10 @@ fn read_all(
     labels: &mut [u64],
     sheets: &[u8],
 )
-    ensures { tables_after control samples nodes links work labels
+    ensures tables { tables_after control samples nodes links work labels
         ≡ read_each (tables_before_all control samples nodes links work labels)
         (parts 1024 sheets.now) }
+    ensures failure { IsErr out.old → out.new ≡ out.old }
 {
     for (i, sheet) in sheets.chunks(1024).enumerate() {
         print!(out; "{}: ", words_of(i));
@@ -394,7 +424,9 @@ fn read_all(
     }
 }
 
-fn read_back(out: &mut Screen, sheets: &[u8]) {
+fn read_back(out: &mut Screen, sheets: &[u8])
+    ensures { IsErr out.old → out.new ≡ out.old }
+{
     let mut control = [7u16; 5];
     let mut samples: [Word; 8] = [7; 8];
     let mut nodes = [7i64; 1305];
@@ -425,7 +457,9 @@ fn damage(sheet: &[u8], sheets: &mut [u8])
     sheets[1540] = 254;
 }
 
-fn run_sheets(out: &mut Screen) {
+fn run_sheets(out: &mut Screen)
+    ensures { IsErr out.old → out.new ≡ out.old }
+{
     let mut sheet = [7u8; 1024];
     write_to(out, &mut sheet, "write 1 8 2");
     let mut short = [7u8; 1023];
@@ -437,7 +471,9 @@ fn run_sheets(out: &mut Screen) {
 
 // ---- document 02, §3: "the fewest first ones that show both sides, or all when none do"
 
-fn run_walks(out: &mut Screen) {
+fn run_walks(out: &mut Screen)
+    ensures { IsErr out.old → out.new ≡ out.old }
+{
     // 0, 1 and 9: T = 9 by sum, so that 9 alone goes right; T = 0 by scatter, and all go left
     print_walk(out, "walk 0 1 9 by sum, T 9", nine(false, 9));
     print_walk(out, "walk 0 1 9 by scatter, T 0", nine(true, 0));
@@ -450,12 +486,15 @@ fn run_walks(out: &mut Screen) {
 // How far the samples of x are from those of y, as they are stored, in a line that begins with words and the limit.
 fn distance_of(out: &mut Screen, words: &str, x: &[Word], y: &[Word], limit: u64)
     requires { (length x.now ≡ length y.now) × (length x.now ≤ most_samples) }
+    ensures { IsErr out.old → out.new ≡ out.old }
 {
     print!(out; "{words} {limit}: ");
     print_distance(out, segment::within::distance_within(x, y, limit));
 }
 
-fn run_distances(out: &mut Screen) {
+fn run_distances(out: &mut Screen)
+    ensures { IsErr out.old → out.new ≡ out.old }
+{
     let words = "two samples, 2 apart, limit";
     let x: [Word; 2] = [0, 0];
     let y: [Word; 2] = [8192, 8192];
@@ -465,7 +504,9 @@ fn run_distances(out: &mut Screen) {
 }
 
 // More samples than are taken at once.
-fn run_longer_distances(out: &mut Screen) {
+fn run_longer_distances(out: &mut Screen)
+    ensures { IsErr out.old → out.new ≡ out.old }
+{
     let words = "twenty samples, 1 apart, limit";
     let x: [Word; 20] = [0; 20];
     let y: [Word; 20] = [4096; 20];
@@ -475,14 +516,20 @@ fn run_longer_distances(out: &mut Screen) {
     distance_of(out, words, &x, &y, 18446744073709551615);
 }
 
-fn main(rt: HostRuntime) -> io::Result<()> {
-    let mut screen = Screen::new(rt.stdout());
+// All of it. Whether all was written, unless memory ran out: a write that failed is told, whatever comes behind it.
+fn run_all(mut screen: Screen, alloc: Global) -> Result<io::Result<()>, AllocError>
+    ensures { IfOk result (λ told. IsErr screen → told ≡ screen) }
+{
     let out = &mut screen;
-    run_openings(out, rt.alloc())?;
+    run_openings(out, alloc)?;
     run_libraries(out);
     run_sheets(out);
     run_walks(out);
     run_distances(out);
     run_longer_distances(out);
-    screen.end()
+    Ok(screen.end())
+}
+
+fn main(rt: HostRuntime) -> io::Result<()> {
+    run_all(Screen::new(rt.stdout()), rt.alloc())?
 }

@@ -19,7 +19,7 @@ use std::io;
 
 // What numbers are called, and they behind it, in a line.
 fn print_line<T: Copy + Display + Drop>(out: &mut Screen, name: impl Display + Drop, numbers: &[T])
-    ensures { IsErr out.old.written → out.new.written ≡ out.old.written }
+    ensures { IsErr out.old → out.new ≡ out.old }
 {
     print!(out; "{name}");
     for number in numbers {
@@ -30,7 +30,7 @@ fn print_line<T: Copy + Display + Drop>(out: &mut Screen, name: impl Display + D
 
 // A line for each row of a script. (Each of them makes a call, so that it has a reply.)
 fn print_replies(out: &mut Screen, script: &[u64], replies: &[u64])
-    ensures { IsErr out.old.written → out.new.written ≡ out.old.written }
+    ensures { IsErr out.old → out.new ≡ out.old }
 {
     for (row, reply) in Rows(script).zip(replies.chunks_exact(REPLY_PLACES)) {
         if let Ok(kind) = RowKind::try_from(number_at(row, 0)) {
@@ -82,9 +82,10 @@ fn put_read(script: &mut [u64])
     lay(script, 48, &[9u64, 2, 5, 12, 435, 3, 5, 3, 4, 2]);
 }
 
-// In tables, trails and sheets with junk in every place.
-fn main(rt: HostRuntime) -> io::Result<()> {
-    let mut out = Screen::new(rt.stdout());
+// In tables, trails and sheets with junk in every place. Whether all was written: a write that failed is told, whatever comes behind it.
+fn play_scripts(mut out: Screen) -> io::Result<()>
+    ensures { IsErr out → result ≡ out }
+{
     let mut control = [7u16; 5];
     let mut samples: [Word; 12] = [7; 12];
     let mut nodes = [7i64; 435];
@@ -131,4 +132,8 @@ fn main(rt: HostRuntime) -> io::Result<()> {
     print_replies(&mut out, &read, &replies);
     print_line(&mut out, "trails", &trails);
     out.end()
+}
+
+fn main(rt: HostRuntime) -> io::Result<()> {
+    play_scripts(Screen::new(rt.stdout()))
 }

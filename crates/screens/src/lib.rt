@@ -8,17 +8,28 @@ ghost use Rattle.std.specs.Prelude.{◌≡◌, IsOk, IsErr};
 
 use std::fmt::Display;
 use std::io::{self, Print, Stdout};
+use std::marker::Model;
 
 #[derive(Drop)]
 pub struct Screen {
     to: Stdout,
     // the first write that failed. Nothing is written after it
-    pub written: io::Result<()>,
+    written: io::Result<()>,
+}
+
+// In contracts a screen is what `end` answers: that all was written, or the first write that failed.
+impl Model for Screen {
+    ghost use Rattle.std.specs.Prelude.{Result};
+    ghost use Rattle.std.specs.declared.io.Error.{Error};
+
+    ghost Value = { Result Unit Error };
+
+    ghost view = { λ s. s.written };
 }
 
 impl Screen {
     pub fn new(to: Stdout) -> Screen
-        ensures { IsOk result.written }
+        ensures { IsOk result }
     {
         Screen {
             to,
@@ -28,7 +39,7 @@ impl Screen {
 
     // What `print!` and `println!` call.
     pub fn print<D: Display + Drop>(&mut self, value: D)
-        ensures { IsErr self.old.written → self.new.written ≡ self.old.written }
+        ensures { IsErr self.old → self.new ≡ self.old }
     {
         if self.written.is_ok() {
             self.written = self.to.print(value);
@@ -36,7 +47,7 @@ impl Screen {
     }
 
     pub fn println<D: Display + Drop>(&mut self, value: D)
-        ensures { IsErr self.old.written → self.new.written ≡ self.old.written }
+        ensures { IsErr self.old → self.new ≡ self.old }
     {
         if self.written.is_ok() {
             self.written = self.to.println(value);
@@ -45,7 +56,7 @@ impl Screen {
 
     // Whether all was written.
     pub fn end(self) -> io::Result<()>
-        ensures { result ≡ self.written }
+        ensures { result ≡ self }
     {
         self.written
     }

@@ -1,6 +1,6 @@
 -- `examples::match_all` meets its contract: behind the queries matched come those that are left.
 use Prim.Native.Nat.{ℕ, min}
-use mathlib.Core.Path.{sym, ap, ◌∙◌}
+use mathlib.Core.Path.{refl, sym, ap, ◌∙◌}
 use mathlib.Core.List.{List}
 use lib.ListN.{length}
 use Rattle.std.specs.Slice.Iter.{chunks_rest, chunks_size}
@@ -9,6 +9,7 @@ use Rattle.tables.specs.Tables.{Tables, labelled_tables}
 use Rattle.calls.specs.Outcome.{Outcome}
 use Rattle.examples.specs.Steps.{parts, matched_each}
 use Rattle.examples.proofs.Parts.{next_part, no_part}
+use Rattle.examples.proofs.Stays.{stays_through}
 use Rattle.examples.proofs.match_all.Goals as goal
 
 pub loop-query-init : goal.loop-query-init
@@ -19,6 +20,7 @@ loop-query-init c =
     record {
       size = ap chunks_size source ∙ c.chunks-query-items.ensures.size;
       onward = ap (λ (m : Trace). matched_each t (parts a.n m)) (ap chunks_rest source ∙ c.chunks-query-items.ensures.rest);
+      failure = λ _. refl;
     }
 
 pub loop-query-preserved : goal.loop-query-preserved
@@ -35,6 +37,7 @@ loop-query-preserved c =
       size = steps.0 ∙ l.invariant.size;
       onward = ap (λ (u : Tables). matched_each u (parts a.n after)) (ap (λ (o : Outcome). o.after) c.match_of.ensures)
           ∙ (sym (ap (λ (m : List (Trace)). matched_each t m) next) ∙ l.invariant.onward);
+      failure = stays_through l.invariant.failure (stays_through c.print_query.ensures c.print_match.ensures);
     }
 
 pub returns : goal.returns
@@ -43,4 +46,4 @@ returns c =
     let a = c.args in
     let t = labelled_tables a.control.now a.samples.now a.nodes.now a.links.now l.work a.labels.now in
     let none = no_part a.n c.requires (chunks_rest l.query-iterator) c.in-None.ensures.steps.1.0 in
-    sym (ap (λ (m : List (Trace)). matched_each t m) none) ∙ l.invariant.onward
+    record { tables = sym (ap (λ (m : List (Trace)). matched_each t m) none) ∙ l.invariant.onward; failure = l.invariant.failure }

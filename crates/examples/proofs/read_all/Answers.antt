@@ -1,6 +1,6 @@
 -- `examples::read_all` meets its contract: behind the sheets read come those that are left.
 use Prim.Native.Nat.{ℕ, min}
-use mathlib.Core.Path.{sym, ap, ◌∙◌}
+use mathlib.Core.Path.{refl, sym, ap, ◌∙◌}
 use mathlib.Core.List.{List}
 use native.Mathlib.Omega.{arith}
 use lib.ListN.{length}
@@ -9,6 +9,7 @@ use Rattle.std.specs.Slice.Iter.{chunks_rest, chunks_size}
 use Rattle.tables.specs.Tables.{Tables, labelled_tables}
 use Rattle.examples.specs.Steps.{parts, read_each}
 use Rattle.examples.proofs.Parts.{next_part, no_part}
+use Rattle.examples.proofs.Stays.{stays_through}
 use Rattle.examples.proofs.read_all.Goals as goal
 
 pub loop-i-init : goal.loop-i-init
@@ -19,6 +20,7 @@ loop-i-init c =
     record {
       size = ap chunks_size source ∙ c.chunks.ensures.size;
       onward = ap (λ (m : List ℕ). read_each t (parts 1024 m)) (ap chunks_rest source ∙ c.chunks.ensures.rest);
+      failure = λ _. refl;
     }
 
 pub loop-i-preserved : goal.loop-i-preserved
@@ -33,8 +35,9 @@ loop-i-preserved c =
     let next = next_part 1024 (omega arith) before c.in-Some.sheet.now after steps.1.0 many steps.1.2 in
     record {
       size = steps.0 ∙ l.invariant.size;
-      onward = ap (λ (u : Tables). read_each u (parts 1024 after)) c.read_one.ensures
+      onward = ap (λ (u : Tables). read_each u (parts 1024 after)) c.read_one.ensures.tables
           ∙ (sym (ap (λ (m : List (List ℕ)). read_each t m) next) ∙ l.invariant.onward);
+      failure = stays_through l.invariant.failure (stays_through c.print.ensures c.read_one.ensures.failure);
     }
 
 pub returns : goal.returns
@@ -43,4 +46,4 @@ returns c =
     let a = c.args in
     let t = labelled_tables l.control l.samples l.nodes l.links l.work l.labels in
     let none = no_part 1024 (omega arith) (chunks_rest (enumerate_source l.i-iterator)) c.in-None.ensures.steps.0.1.0 in
-    sym (ap (λ (m : List (List ℕ)). read_each t m) none) ∙ l.invariant.onward
+    record { tables = sym (ap (λ (m : List (List ℕ)). read_each t m) none) ∙ l.invariant.onward; failure = l.invariant.failure }

@@ -3,4 +3,4 @@ use Rattle.std.proofs.Common.{◌≡◌, IsErr}
 use Rattle.play_script.proofs.print_line.Given as goal
 
 abbrev pub invariant-loop-number : goal.invariant-loop-number
-invariant-loop-number g l = IsErr l.fn.out.written → l.out.written ≡ l.fn.out.written
+invariant-loop-number g l = IsErr l.fn.out → l.out ≡ l.fn.out

@@ -1,14 +1,14 @@
 -- Of a bound or an upper figure only how many edges it has reached bears on the report. Edges rise, so that a figure has reached edge number
 -- k exactly if it has reached more than k edges.
 use Rattle.std.specs.Prelude.{if◌then◌else◌}
-use Rattle.std.specs.List.{filter}
-use Prim.Native.Nat.{ℕ, zero, suc, ◌≤◌, ◌<◌, min, max}
+use Prim.Native.Nat.{ℕ, zero, suc, ◌+◌, ◌≤◌, ◌<◌, min, max}
 use mathlib.Core.Path.{◌≡◌, refl, sym, ◌∙◌}
 use mathlib.Core.Bool.{Bool, true, false, ◌&&◌}
 use mathlib.Core.List.{List, [], ◌∷◌}
 use native.Mathlib.Omega.{arith}
 use native.Mathlib.Decide.{dec_le}
-use lib.ListN.{length, get_or}
+use lib.ListN.{length, get_or, drop, drop_of_length-le}
+use lib.Seq.{drop-cons}
 use lib.Dec.{T, leb, ltb, eqb, leb→le, le→leb, eqb→eq, leb-suc-suc, leb-suc-zero}
 use mir.Facts.{and_yes, yes_and}
 use borrow.Author.Tests.{ltb-true, ltb-false, lt-ltb, le-ltb, leb-true, leb-false, le-leb, lt-leb}
@@ -130,17 +130,20 @@ both_eqb n k = same_test
     eq→eqb {a = n} {b = k} (omega (arith, leb→le k n h.0, leb→le n k h.1)))
     (λ t. let e : n ≡ k = eqb→eq n k t in yes_and (leb k n) (leb n k) (le→leb k n (omega arith)) (le→leb n k (omega arith)))
 
--- what passes the test, as the library says it
-pub reached_is : (edges : List ℕ) (figure : ℕ) → length (filter (λ edge. leb edge figure) edges) ≡ edges_reached edges figure
+-- one edge more
+pub reached_next : (edges : List ℕ) (i figure : ℕ) → i < length edges
+    → edges_reached (drop i edges) figure ≡ (if leb (get_or edges i 0) figure then 1 else 0) + edges_reached (drop (suc i) edges) figure
 unfolding edges_reached those
-reached_is [] figure = refl
-reached_is (e ∷ edges) figure = by (leb e figure) (reached_is edges figure)
+reached_next edges i figure h = rw (drop-cons edges i 0 h) (by (leb (get_or edges i 0) figure))
   where
-    by : (t : Bool) → length (filter (λ edge. leb edge figure) edges) ≡ length (those (λ edge. leb edge figure) edges)
-        → length (if t then e ∷ filter (λ edge. leb edge figure) edges else filter (λ edge. leb edge figure) edges)
-        ≡ length (if t then e ∷ those (λ edge. leb edge figure) edges else those (λ edge. leb edge figure) edges)
-    by true ih = omega arith
-    by false ih = ih
+    by : (t : Bool) → length (if t then get_or edges i 0 ∷ those (λ e. leb e figure) (drop (suc i) edges) else those (λ e. leb e figure) (drop (suc i) edges))
+        ≡ (if t then 1 else 0) + length (those (λ e. leb e figure) (drop (suc i) edges))
+    by true = omega arith
+    by false = omega arith
+
+pub reached_end : (edges : List ℕ) (i figure : ℕ) → length edges ≤ i → edges_reached (drop i edges) figure ≡ 0
+unfolding edges_reached those
+reached_end edges i figure h = rw (drop_of_length-le edges {i = i} h)
 
 -- ---- edges that may be given
 

@@ -8,5 +8,10 @@ pub fn reached(edges: &[u64], figure: u64) -> u64
     requires { length edges.now ≤ most_edges }
     ensures { result ≡ edges_reached edges.now figure }
 {
-    edges.iter().filter(|edge| **edge <= figure).count() as u64
+    let mut many: u64 = 0;
+    // a count of those that a filter leaves takes longer, and this is done twice a node
+    for edge in edges {
+        many += u64::from(*edge <= figure);
+    }
+    many
 }

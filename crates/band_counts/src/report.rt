@@ -33,7 +33,9 @@ pub fn report(
         ≡ filled (work_needed (measures_of (records_only control.now nodes.now links.now))) 0
         work.old }
 {
-    let summed = Summed::of(query);
+    let mut sums = [0; 257];
+    let mut squares = [0; 257];
+    let summed = Summed::of(query, &mut sums, &mut squares);
     let k = usize::from(field(control, TRACE_COUNT));
     let m = usize::from(field(control, NODE_COUNT));
     let needed = tables::control::records_needed(u64::from(field(control, CAPACITY)));

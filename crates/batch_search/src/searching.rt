@@ -38,7 +38,13 @@ fn search_query(
     ensures counted { CountedOnce (stored_tables stored.entry) marks.new result }
 {
     let n = wide(field(stored.control, N));
-    let summed = Summed::of(tables::runs::trace_at(queries, n, i));
+    let mut sums = [0; 257];
+    let mut squares = [0; 257];
+    let summed = Summed::of(
+        tables::runs::trace_at(queries, n, i),
+        &mut sums,
+        &mut squares,
+    );
     crate::visiting::visit(
         stored, queries, many, i, &summed, work, bests, marks, leaves,
     )

@@ -86,6 +86,8 @@ pub fn descend(nodes: &mut [i64], count: usize, trace: &[Word]) -> usize
         ≡ widened_on (samples_of trace.now) nodes.old
         (way_in nodes.old count (samples_of trace.now)) }
 {
-    let summed = Summed::of(trace);
+    let mut sums = [0; 257];
+    let mut squares = [0; 257];
+    let summed = Summed::of(trace, &mut sums, &mut squares);
     descend_by(nodes, count, &summed)
 }

@@ -44,7 +44,9 @@ fn search_lists(
     ensures bench_behind { drop (node_count (stored_tables bench_stored.entry)) bench_work.new
         ≡ drop (node_count (stored_tables bench_stored.entry)) bench_work.old }
 {
-    let summed = Summed::of(query);
+    let mut sums = [0; 257];
+    let mut squares = [0; 257];
+    let summed = Summed::of(query, &mut sums, &mut squares);
     let count = wide(field(stored.control, NODE_COUNT));
     let bench_count = wide(field(bench_stored.control, NODE_COUNT));
     visit_both(

@@ -1,10 +1,10 @@
 -- Prefix sums that are filled in place by place: after i turns the places 0 to i hold those of the samples that the words stand for.
-use mathlib.Core.Path.{◌≡◌, refl, sym, ap, ◌∙◌}
+use mathlib.Core.Path.{◌≡◌, sym, ap, ◌∙◌}
 use mathlib.Core.List.{List}
 use Prim.Native.Nat.{ℕ, ◌+◌, ◌≤◌, ◌<◌}
 use native.Mathlib.Omega.{arith}
 use lib.IntN.{ℤ, pos, nat_abs, ◌+ℤ◌}
-use lib.ListN.{length, get_or, take, set, length-set, replicate, length-replicate}
+use lib.ListN.{length, get_or, take, set, length-set}
 use lib.Seq.{get_or-set_same, get_or-set_other, length-take-le}
 use borrow.Author.Count.{below_more}
 use Rattle.integer.specs.Words.{square}
@@ -24,15 +24,16 @@ pub record Passed (words sums : List ℤ) (squares : List ℕ) (i : ℕ) : Type 
   pub sums_are : (j : ℕ) → j < i + 1 → get_or sums j (pos 0) ≡ sum (take j (samples_of words))
   pub squares_are : (j : ℕ) → j < i + 1 → get_or squares j 0 ≡ sum_of_squares (take j (samples_of words))
 
-pub passed_none : (words : List ℤ) → Passed words (replicate 257 (pos 0)) (replicate 257 0) 0
+pub passed_none : (words sums : List ℤ) (squares : List ℕ) → length sums ≡ 257 → length squares ≡ 257
+    → Passed words (set sums 0 (pos 0)) (set squares 0 0) 0
 unfolding sum sum_of_squares
-passed_none words =
+passed_none words sums squares a b =
     record {
       inside = omega arith;
-      sum_places = length-replicate {A = ℤ} 257 (pos 0);
-      square_places = length-replicate {A = ℕ} 257 0;
-      sums_are = below_more _ 0 (λ j h. absurd (omega arith)) refl;
-      squares_are = below_more _ 0 (λ j h. absurd (omega arith)) refl;
+      sum_places = length-set sums 0 (pos 0) ∙ a;
+      square_places = length-set squares 0 0 ∙ b;
+      sums_are = below_more _ 0 (λ j h. absurd (omega arith)) (get_or-set_same sums 0 (pos 0) (pos 0) (omega arith));
+      squares_are = below_more _ 0 (λ j h. absurd (omega arith)) (get_or-set_same squares 0 0 0 (omega arith));
     }
 
 module _ {words sums : List ℤ} {squares : List ℕ} {i : ℕ} (p : Passed words sums squares i) where

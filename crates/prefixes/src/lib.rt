@@ -34,20 +34,25 @@ fn with_square(squares: u64, word: Word) -> u64
 #[derive(Drop)]
 pub struct Summed<'a> {
     pub trace: &'a [Word],
-    sums: [i64; 257],
-    squares: [u64; 257],
-    pub ghost summed: { Prefixes (samples_of trace.now) sums squares },
+    sums: &'a [i64; 257],
+    squares: &'a [u64; 257],
+    pub ghost summed: { Prefixes (samples_of trace.now) sums.now squares.now },
 }
 
 impl<'a> Summed<'a> {
     // At place i of each array, the first i samples', from none of them to all. The samples are looked at once, here. Sums that start at 1
-    // do not meet this.
-    pub fn of(trace: &'a [Word]) -> Summed<'a>
+    // do not meet this. The arrays are lent, and their contents do not matter: handed out by value they were copied, which a match of few
+    // traces took half as long again for.
+    pub fn of(
+        trace: &'a [Word],
+        sums: &'a mut [i64; 257],
+        squares: &'a mut [u64; 257],
+    ) -> Summed<'a>
         requires { length trace.now ≤ most_samples }
         ensures { result.trace.now ≡ trace.now }
     {
-        let mut sums: [i64; 257] = [0; 257];
-        let mut squares: [u64; 257] = [0; 257];
+        sums[0] = 0;
+        squares[0] = 0;
         for (i, word) in trace.iter().enumerate() {
             sums[i + 1] = with_sample(sums[i], *word);
             squares[i + 1] = with_square(squares[i], *word);

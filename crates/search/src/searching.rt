@@ -31,7 +31,9 @@ fn search_first(
         (samples_of query.now) work.old work.new trail.old trail.new list.old
         list.new result.listed result.out result.traces result.unread }
 {
-    let summed = Summed::of(query);
+    let mut sums = [0; 257];
+    let mut squares = [0; 257];
+    let summed = Summed::of(query, &mut sums, &mut squares);
     let count = tables::numbers::wide(field(stored.control, NODE_COUNT));
     let seen = crate::visiting::visit_first(
         stored,

@@ -74,8 +74,11 @@ pub fn copy_samples(bytes: &[u8], places: &mut [Word], format: Format)
 pub fn magnitude(sample: Sample) -> u64
     ensures { result ≡ mag sample }
 {
-    let from_zero = if sample < 0 { -1 - sample } else { sample };
-    u64::from(from_zero.unsigned_abs())
+    // a cast of each: an absolute value of what is never below 0 takes three instructions more a sample
+    if sample < 0 {
+        return (-1 - sample) as u64;
+    }
+    sample as u64
 }
 
 // "fit 16 bits": the samples of all these words do.

@@ -15,7 +15,7 @@ use Rattle.prefixes.proofs.Passed.{passed_none, sum_size, squares_size, passed_m
 use Rattle.prefixes.proofs.Summed.of.Goals as goal
 
 pub loop-i-init : goal.loop-i-init
-loop-i-init c = passed_none c.args.trace.now
+loop-i-init c = passed_none c.args.trace.now c.args.sums.now c.args.squares.now (search rules) (search rules)
 
 pub with_sample-requires : goal.with_sample-requires
 with_sample-requires c =

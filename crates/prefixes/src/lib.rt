@@ -41,8 +41,8 @@ pub struct Summed<'a> {
 
 impl<'a> Summed<'a> {
     // At place i of each array, the first i samples', from none of them to all. The samples are looked at once, here. Sums that start at 1
-    // do not meet this. The arrays are lent, and their contents do not matter: handed out by value they were copied, which a match of few
-    // traces took half as long again for.
+    // do not meet this. The arrays are lent, and their contents do not matter. By value they would be copied, and a match in few traces would
+    // take half as long again.
     pub fn of(
         trace: &'a [Word],
         sums: &'a mut [i64; 257],

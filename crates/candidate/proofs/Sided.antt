@@ -17,7 +17,7 @@ use Rattle.tables.proofs.Listed.{stored_at}
 use Rattle.leaf_figures.specs.Listed.{traces_at}
 use Rattle.leaf_figures.specs.Rows.{trace_of, all_traces, stored_of, HasRows}
 use Rattle.leaf_figures.specs.declared.listed.Listed.{Listed}
-use Rattle.leaf_figures.specs.declared.table.Column.{Column}
+use Rattle.leaf_figures.specs.declared.table.ColumnView.{ColumnView}
 use Rattle.candidate.specs.Siding.{on_side, side_of}
 
 -- one number more, if it is on the side
@@ -77,11 +77,11 @@ module _ (l : Listed) where
   side_in test left i = (from_those (λ (u : ℕ). on_side left (sends_left test (trace_of l u))) l.list.now i).0
 
 -- the rows of some of the traces
-pub rows_among : (l m : Listed) (place : List ℕ) (columns : List Column) → m.samples.now ≡ l.samples.now → m.n ≡ l.n → ((t : ℕ) → In t m.list.now → In t l.list.now)
+pub rows_among : (l m : Listed) (place : List ℕ) (columns : List ColumnView) → m.samples.now ≡ l.samples.now → m.n ≡ l.n → ((t : ℕ) → In t m.list.now → In t l.list.now)
     → HasRows l place columns → HasRows m place columns
 rows_among l m place columns samples n among h = record {
-  rows = λ f on some.
-      let r = h.rows f on some in record {
+  rows = λ f c on at has.
+      let r = h.rows f c on at has in record {
         placed = λ t i. r.placed t (among t i);
         kept = λ t i. rw (samples, n) (r.kept t (among t i));
       };

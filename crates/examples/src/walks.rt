@@ -13,7 +13,7 @@ use leaf_figures::listed::Listed;
 use leaf_figures::lists::list_leaf;
 use leaf_figures::rows::Rows;
 use leaf_figures::stored::StoredLeaf;
-use leaf_figures::table::{NO_COLUMN, Run, Table};
+use leaf_figures::table::Run;
 
 // The whole run of n samples, by its sum or by its scatter. No figures are kept: they are taken from the samples.
 pub fn walk_of(leaf: StoredLeaf, by_scatter: bool, threshold: i64) -> Look
@@ -29,14 +29,10 @@ pub fn walk_of(leaf: StoredLeaf, by_scatter: bool, threshold: i64) -> Look
         k: leaf.k,
         list: &list[..count],
     };
-    let table = Table {
-        place: [0; 4096],
-        columns: [NO_COLUMN; 48],
-    };
     let rows = Rows {
         traces,
-        place: &table.place,
-        columns: &table.columns,
+        place: &[],
+        columns: &[],
     };
     let c = Trial {
         on: Run {

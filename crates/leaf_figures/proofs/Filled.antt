@@ -1,18 +1,21 @@
 -- The table of figures while it is filled: a column gets a row more, and a run gets its column.
-use Rattle.std.specs.Prelude.{Some, None}
+use Rattle.std.specs.Prelude.{Some, None, map, slice_get, option_map}
+use Rattle.std.proofs.lemmas.Option.{none-some, slice_get-map, get_or_from_slice_get}
 use mathlib.Core.Path.{◌≡◌, refl, sym, ap, subst, ◌∙◌}
 use mathlib.Core.List.{List}
-use Prim.Native.Nat.{ℕ, zero, suc, ◌+◌, ◌<◌}
+use Prim.Native.Nat.{ℕ, zero, suc, ◌+◌, ◌≤◌, ◌<◌}
 use native.Mathlib.Omega.{arith}
+use native.Mathlib.Decide.{dec_le}
 use lib.ListN.{length, get_or, set, replicate, length-set, length-replicate}
 use lib.Seq.{get_or-set_same, get_or-set_other}
 use borrow.Author.Count.{below_more}
 use Rattle.integer.proofs.Lists.{same_or_not}
 use Rattle.segment.specs.declared.figures.Figures.{Figures}
-use Rattle.leaf_figures.specs.Rows.{no_figures_yet, no_column, FiguresOf, FiguresAt, HasRows, PlacesInList, FirstRows, FullColumn, Columns, trace_of}
+use Rattle.leaf_figures.specs.Rows.{no_figures_yet, no_column, FiguresOf, FiguresAt, HasRows, PlacesInList, FirstRows, FullColumn, Columns, trace_of, viewed}
 use Rattle.leaf_figures.specs.declared.listed.Listed.{Listed}
 use Rattle.leaf_figures.specs.declared.table.Run.{Run}
 use Rattle.leaf_figures.specs.declared.table.Column.{Column}
+use Rattle.leaf_figures.specs.declared.table.ColumnView.{ColumnView}
 use Rattle.leaf_figures.specs.declared.table.Table.{Table}
 
 -- one row more
@@ -50,21 +53,27 @@ no_columns l = record { places = length-replicate {A = Column} 48 no_column; col
     none : FullColumn l no_column
     none = record { places = length-replicate {A = Figures} 65 no_figures_yet; rows = λ on some. absurd (cc some) }
 
--- with no column a table says nothing, so that it serves any list
-pub no_rows : (l : Listed) (place : List ℕ) → HasRows l place (replicate 48 no_column)
-no_rows l place = record {
-  rows = λ f on some. absurd (none (sym (ap (λ (x : Column). x.run) (no_run 48 f)) ∙ some));
-}
+-- what a fill leaves of columns without runs
+pub filled_columns : (l : Listed) (columns : List Column) → (length l.list.now ≤ 65 → Columns l columns) → (65 < length l.list.now → columns ≡ replicate 48 no_column) → Columns l columns
+filled_columns l columns few many = by (dec_le (length l.list.now) 65)
   where
-    none : {on : Run} → None ≡ Some on → ⊥
-    none e = absurd (cc e)
+    by : Dec (length l.list.now ≤ 65) → Columns l columns
+    by (yes h) = few h
+    by (no f) = subst (Columns l) (sym (many (omega (arith, f)))) (no_columns l)
+
+-- columns without runs serve any list
+pub no_rows : (l : Listed) (place : List ℕ) (columns : List ColumnView) → ((f : ℕ) (c : ColumnView) → slice_get columns f ≡ Some c → c.run ≡ None) → HasRows l place columns
+no_rows l place columns none = record { rows = λ f c on at has. absurd (none-some on (sym (none f c at) ∙ has)) }
 
 -- columns in the list's order are rows by its numbers
-pub rows_of : (l : Listed) (table : Table) → PlacesInList l.list.now table.place → Columns l table.columns → HasRows l table.place table.columns
-rows_of l table p c = record {
-  rows = λ f on some. record {
-    placed = λ t i. omega (arith, p.inside t i, p.places);
-    kept = λ t i. subst (λ (u : ℕ). FiguresAt (trace_of l u) on (get_or table.columns f no_column).figures (get_or table.place t 0)) (p.back t i)
-        ((c.column f).rows on some (get_or table.place t 0) (p.row t i));
-  };
+pub rows_of : (l : Listed) (table : Table) (views : List ColumnView) → PlacesInList l.list.now table.place → Columns l table.columns → map viewed views ≡ table.columns
+    → HasRows l table.place views
+rows_of l table views p c lent = record {
+  rows = λ f v on at has.
+      let here : slice_get table.columns f ≡ Some (viewed v) = subst (λ (m : List Column). slice_get m f ≡ Some (viewed v)) lent (slice_get-map viewed views f ∙ ap (option_map viewed) at) in
+      let column = subst (FullColumn l) (get_or_from_slice_get table.columns f (viewed v) no_column here) (c.column f) in record {
+        placed = λ t i. omega (arith, p.inside t i, p.places);
+        kept = λ t i. subst (λ (u : ℕ). FiguresAt (trace_of l u) on v.figures.now (get_or table.place t 0)) (p.back t i)
+            (column.rows on has (get_or table.place t 0) (p.row t i));
+      };
 }

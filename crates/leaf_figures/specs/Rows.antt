@@ -1,6 +1,6 @@
 -- The figures of some traces on some runs, kept so that samples are read once. What is kept is a table that may lack any run: a run's figures
 -- are those of the samples, wherever they are read from.
-use Rattle.std.specs.Prelude.{ℕ, ◌*◌, ◌+◌, ◌-◌, ◌/◌, ◌≤◌, ◌<◌, ◌≡◌, Some, None, List, pos, nat_abs, length, get_or, replicate}
+use Rattle.std.specs.Prelude.{ℕ, ◌*◌, ◌+◌, ◌-◌, ◌/◌, ◌≤◌, ◌<◌, ◌≡◌, Some, None, List, pos, nat_abs, length, get_or, replicate, slice_get}
 use Rattle.integer.specs.Lists.{In}
 use Rattle.segment.specs.Limits.{sum_most, scatter_most}
 use Rattle.dstree.specs.Measures.{Trace, most_samples, most_leaf, most_traces}
@@ -13,6 +13,7 @@ pub use Rattle.leaf_figures.specs.Listed.{traces_at}
 use Rattle.leaf_figures.specs.declared.listed.Listed.{Listed}
 use Rattle.leaf_figures.specs.declared.table.Run.{Run}
 use Rattle.leaf_figures.specs.declared.table.Column.{Column}
+use Rattle.leaf_figures.specs.declared.table.ColumnView.{ColumnView}
 
 -- the halves of a run, the left one rounded down
 abbrev pub left_half : Run → Run
@@ -34,6 +35,10 @@ no_figures_yet = record { sum = pos 0; scatter = 0 }
 
 abbrev pub no_column : Column
 no_column = record { run = None; figures = replicate column_rows no_figures_yet }
+
+-- a lent column's run and figures
+abbrev pub viewed : ColumnView → Column
+viewed c = record { run = c.run; figures = c.figures.now }
 
 -- a trace's figures on a run
 pub record FiguresOf (x : Trace) (on : Run) (own : Figures) : Type 0 where
@@ -70,8 +75,8 @@ pub record RowsOn (l : Listed) (place : List ℕ) (on : Run) (figures : List Fig
   pub kept : (t : ℕ) → In t l.list.now → FiguresAt (trace_of l t) on figures (get_or place t 0)
 
 -- each column that has a run has the figures of the traces on it. Trace t is in row `place` t of a column
-pub record HasRows (l : Listed) (place : List ℕ) (columns : List Column) : Type 0 where
-  pub rows : (f : ℕ) (on : Run) → (get_or columns f no_column).run ≡ Some on → RowsOn l place on (get_or columns f no_column).figures
+pub record HasRows (l : Listed) (place : List ℕ) (columns : List ColumnView) : Type 0 where
+  pub rows : (f : ℕ) (c : ColumnView) (on : Run) → slice_get columns f ≡ Some c → c.run ≡ Some on → RowsOn l place on c.figures.now
 
 -- ---- while the table is made
 

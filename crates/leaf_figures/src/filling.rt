@@ -49,10 +49,11 @@ fn fill_segment(traces: Listed, j: usize, on: Run, halves: bool, columns: &mut [
     fill_run(traces, 32 + j, right, columns);
 }
 
-// The columns of all segments with these right ends. A list of more than 65 traces gets none.
+// The columns of all segments with these right ends. A list of more than 65 traces gets none: whatever the columns are, they stay.
 pub fn fill_rows(traces: Listed, e: Ends, columns: &mut [Column; 48])
-    requires { EndsRoom e × Rises traces.n 1 (ends_of e) × Columns traces columns.old }
-    ensures { Columns traces.entry columns.new }
+    requires { EndsRoom e × Rises traces.n 1 (ends_of e) × (length traces.list.now ≤ column_rows → Columns traces columns.old) }
+    ensures filled { length traces.entry.list.now ≤ column_rows → Columns traces.entry columns.new }
+    ensures stays { column_rows < length traces.entry.list.now → columns.new ≡ columns.old }
 {
     if 65 < traces.list.len() {
         return;

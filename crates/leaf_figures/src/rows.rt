@@ -1,19 +1,23 @@
 // The figures that are kept of a list's traces, so that samples are read once, and figures from them, or else from the samples.
 
-ghost use Rattle.std.specs.Prelude.{◌≡◌, Some, IfSome, unwrap_or, get_or};
+ghost use Rattle.std.specs.Prelude.{◌≡◌, Some, IfSome, unwrap_or, slice_get};
 ghost use Rattle.tables.specs.View.{trace_in};
 ghost use Rattle.tables.specs.Runs.{RunOfTrace};
-ghost use Rattle.leaf_figures.specs.Rows.{HasRows, RowsOn, RowOf, FiguresOf, no_column};
+ghost use Rattle.leaf_figures.specs.Rows.{HasRows, RowsOn, RowOf, FiguresOf};
 
 use crate::listed::Listed;
-use crate::table::{Column, Run};
+use crate::table::{ColumnView, Run};
 use segment::Word;
 use segment::figures::Figures;
 use tables::runs::{figures_on, trace_at};
 
 // The column of a run, if it is the one that the caller thinks of. So a wrong guess costs time and nothing else.
-pub fn column_of(columns: &[Column], guess: Option<usize>, on: Run) -> Option<&Column>
-    ensures at_guess { IfSome result (λ c. c.now ≡ get_or columns.now (unwrap_or guess 0) no_column) }
+pub fn column_of<'a, 'b>(
+    columns: &'b [ColumnView<'a>],
+    guess: Option<usize>,
+    on: Run,
+) -> Option<&'b ColumnView<'a>>
+    ensures at_guess { IfSome result (λ c. slice_get columns.now (unwrap_or guess 0) ≡ Some c.now) }
     ensures of_run { IfSome result (λ c. c.now.run ≡ Some on) }
 {
     let column = columns.get(guess?)?;
@@ -48,14 +52,15 @@ pub fn figures_at(
 pub struct Rows<'a> {
     pub traces: Listed<'a>,
     pub place: &'a [u16],
-    pub columns: &'a [Column],
+    pub columns: &'a [ColumnView<'a>],
     pub ghost rows: { HasRows traces place.now columns.now },
 }
 
 impl<'a> Rows<'a> {
     // The column of a run, as `column_of` has it: the traces have their rows in it.
-    pub fn column_of(self, guess: Option<usize>, on: Run) -> Option<&'a Column>
-        ensures rows { IfSome result (λ c. RowsOn self.entry.traces self.entry.place.now on c.now.figures) }
+    pub fn column_of(self, guess: Option<usize>, on: Run) -> Option<&'a ColumnView<'a>>
+        ensures at_guess { IfSome result (λ c. slice_get self.entry.columns.now (unwrap_or guess 0) ≡ Some c.now) }
+        ensures rows { IfSome result (λ c. RowsOn self.entry.traces self.entry.place.now on c.now.figures.now) }
         ensures of_run { IfSome result (λ c. c.now.run ≡ Some on) }
     {
         column_of(self.columns, guess, on)
@@ -66,6 +71,6 @@ impl<'a> Rows<'a> {
         ensures { IfSome result (λ k. RowsOn self.entry.traces self.entry.place.now on k.now) }
     {
         let column = self.column_of(guess, on)?;
-        Some(&column.figures)
+        Some(column.figures)
     }
 }

@@ -1,8 +1,8 @@
 // The table of figures that are kept: a column for each of a leaf's segments and for the halves of each.
 
-ghost use Rattle.std.specs.Prelude.{◌≡◌, ◌≤◌, ◌<◌};
+ghost use Rattle.std.specs.Prelude.{◌≡◌, ◌≤◌, ◌<◌, map};
 ghost use Rattle.dstree.specs.Measures.{most_samples};
-ghost use Rattle.leaf_figures.specs.Rows.{left_half, right_half};
+ghost use Rattle.leaf_figures.specs.Rows.{left_half, right_half, viewed};
 
 use segment::figures::Figures;
 
@@ -44,6 +44,31 @@ pub const NO_COLUMN: Column = Column {
     run: None,
     figures: [Figures { sum: 0, scatter: 0 }; 65],
 };
+
+// A column that is lent, with any number of rows: where figures lie one column behind another in one slice, a view may reach to its end.
+#[derive(Clone, Copy)]
+pub struct ColumnView<'a> {
+    pub run: Option<Run>,
+    pub figures: &'a [Figures],
+}
+
+// The view of no column.
+pub const NO_VIEW: ColumnView<'static> = ColumnView {
+    run: None,
+    figures: &[],
+};
+
+// Each view is of the column in its place. What was viewed before does not matter.
+pub fn view_columns<'a>(columns: &'a [Column; 48], views: &mut [ColumnView<'a>; 48])
+    ensures { map viewed views.new ≡ columns.now }
+{
+    for (f, column) in columns.iter().enumerate() {
+        views[f] = ColumnView {
+            run: column.run,
+            figures: &column.figures,
+        };
+    }
+}
 
 // Segment i's column is at i, its left half's at 16 + i, and its right half's at 32 + i. Trace t is in row `place[t]` of each.
 #[derive(Drop)]

@@ -27,7 +27,7 @@ use leaf_figures::lists::{list_leaf, place_list};
 use leaf_figures::rows::Rows;
 use leaf_figures::sameness::all_same;
 use leaf_figures::spread::spread_along;
-use leaf_figures::table::{NO_COLUMN, Run, Table};
+use leaf_figures::table::{NO_COLUMN, NO_VIEW, Run, Table, view_columns};
 use segment::Word;
 
 // A candidate that parts the leaf, with its threshold and its gain.
@@ -193,10 +193,12 @@ fn best_kept(traces: Listed, e: Ends) -> Option<Choice>
     };
     place_list(traces.list, &mut table.place);
     fill_rows(traces, e, &mut table.columns);
+    let mut columns = [NO_VIEW; 48];
+    view_columns(&table.columns, &mut columns);
     let rows = Rows {
         traces,
         place: &table.place,
-        columns: &table.columns,
+        columns: &columns,
     };
     best_along(rows, e)
 }

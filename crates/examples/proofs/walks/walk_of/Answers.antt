@@ -1,4 +1,4 @@
--- `examples::walks::walk_of` meets its contract: the list is the leaf's numbers, and the table of figures has no run.
+-- `examples::walks::walk_of` meets its contract: the list is the leaf's numbers, and no figures are kept.
 use mathlib.Core.Path.{ap₂, subst, ◌∙◌}
 use mathlib.Core.List.{List}
 use Prim.Native.Nat.{ℕ, ◌<◌}
@@ -11,6 +11,7 @@ use Rattle.tables.specs.Walk.{stored_in}
 use Rattle.tables.specs.Runs.{test_by}
 use Rattle.tables.proofs.Listed.{numbers_below, run_in}
 use Rattle.leaf_figures.proofs.Filled.{no_rows}
+use Rattle.std.proofs.lemmas.Option.{none-some}
 use Rattle.candidate.specs.Parting.{look_of}
 use Rattle.examples.proofs.walks.walk_of.Goals as goal
 
@@ -33,7 +34,7 @@ invariant_of-traces c =
     }
 
 pub invariant_of-rows : goal.invariant_of-rows
-invariant_of-rows c = record { rows = no_rows _ _ }
+invariant_of-rows c = record { rows = no_rows _ _ _ (λ f v at. absurd (none-some v at)) }
 
 pub look_along-requires : goal.look_along-requires
 look_along-requires c = record { from_1 = omega arith; rises = c.requires.wide; to_n = omega arith }

@@ -16,6 +16,9 @@ overflow_add-first c = omega (
   c.args.traces.inside.narrow,
 )
 
+pub loop-i-init : goal.loop-i-init
+loop-i-init c = (omega arith, c.requires.1, c.requires.2 (omega (arith, c.if-traces-gt65.false)))
+
 pub loop-i-preserved : goal.loop-i-preserved
 loop-i-preserved c = (
   omega arith,

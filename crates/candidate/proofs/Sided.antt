@@ -5,6 +5,7 @@ use mathlib.Core.Bool.{Bool, true, false, beq}
 use mathlib.Core.List.{List, [], ◌∷◌, ◌++◌, append_assoc}
 use Prim.Native.Nat.{ℕ, suc, ◌+◌, ◌≤◌, ◌<◌}
 use native.Mathlib.Omega.{arith}
+use lib.IntN.{ℤ}
 use lib.ListN.{length, get_or, set, take}
 use mir.Val.{bool_byte}
 use lib.Seq.{take-suc-set, take-set-le}
@@ -13,9 +14,11 @@ use Rattle.integer.proofs.Lists.{In, map_agree, those_agree, from_those}
 use Rattle.dstree.specs.Measures.{Trace}
 use Rattle.dstree.specs.Node.{Test, sends_left}
 use Rattle.dstree.specs.Adding.{traces_of}
+use Rattle.tables.specs.View.{trace_in}
+use Rattle.tables.specs.Walk.{stored_in}
 use Rattle.tables.proofs.Listed.{stored_at}
 use Rattle.leaf_figures.specs.Listed.{traces_at}
-use Rattle.leaf_figures.specs.Rows.{trace_of, all_traces, stored_of, HasRows}
+use Rattle.leaf_figures.specs.Rows.{HasRows}
 use Rattle.leaf_figures.specs.declared.listed.Listed.{Listed}
 use Rattle.leaf_figures.specs.declared.table.ColumnView.{ColumnView}
 use Rattle.candidate.specs.Siding.{on_side, side_of}
@@ -24,12 +27,12 @@ use Rattle.candidate.specs.Siding.{on_side, side_of}
 abbrev pub with_one : Bool → ℕ → List ℕ → List ℕ
 with_one b t rest = if b then t ∷ rest else rest
 
-module _ (l : Listed) (test : Test) (left : Bool) where
-  pub side_more : (t : ℕ) (rest : List ℕ) → side_of l test left (t ∷ rest) ≡ with_one (on_side left (sends_left test (trace_of l t))) t (side_of l test left rest)
+module _ (samples : List ℤ) (n : ℕ) (test : Test) (left : Bool) where
+  pub side_more : (t : ℕ) (rest : List ℕ) → side_of samples n test left (t ∷ rest) ≡ with_one (on_side left (sends_left test (trace_in samples n t))) t (side_of samples n test left rest)
   unfolding those
   side_more t rest = refl
 
-  pub side_none : side_of l test left [] ≡ []
+  pub side_none : side_of samples n test left [] ≡ []
   unfolding those
   side_none = refl
 
@@ -56,25 +59,25 @@ counted_is false count = omega arith
 
 -- ---- a side's traces and figures
 
-module _ (l : Listed) where
-  pub list_traces : all_traces l ≡ traces_of (stored_of l) l.list.now
-  list_traces = map_agree (trace_of l) (λ (t : ℕ). get_or (stored_of l) t []) l.list.now (λ t i. sym (stored_at l.samples.now l.n l.k t (l.inside.below t i)))
+module _ (samples : List ℤ) (n k : ℕ) (numbers : List ℕ) (below : (t : ℕ) → In t numbers → t < k) where
+  pub list_traces : traces_at samples n numbers ≡ traces_of (stored_in samples n k) numbers
+  list_traces = map_agree (trace_in samples n) (λ (t : ℕ). get_or (stored_in samples n k) t []) numbers (λ t i. sym (stored_at samples n k t (below t i)))
 
   abbrev on : Test → Bool → ℕ → Bool
-  on test left t = on_side left (sends_left test (get_or (stored_of l) t []))
+  on test left t = on_side left (sends_left test (get_or (stored_in samples n k) t []))
 
-  side_same : (test : Test) (left : Bool) → side_of l test left l.list.now ≡ those (on test left) l.list.now
-  side_same test left = those_agree (λ t. on_side left (sends_left test (trace_of l t))) (on test left) l.list.now
-      (λ t i. ap (λ (x : Trace). on_side left (sends_left test x)) (sym (stored_at l.samples.now l.n l.k t (l.inside.below t i))))
+  side_same : (test : Test) (left : Bool) → side_of samples n test left numbers ≡ those (on test left) numbers
+  side_same test left = those_agree (λ t. on_side left (sends_left test (trace_in samples n t))) (on test left) numbers
+      (λ t i. ap (λ (x : Trace). on_side left (sends_left test x)) (sym (stored_at samples n k t (below t i))))
 
-  pub side_traces : (test : Test) (left : Bool) → traces_at l.samples.now l.n (side_of l test left l.list.now) ≡ traces_of (stored_of l) (those (on test left) l.list.now)
+  pub side_traces : (test : Test) (left : Bool) → traces_at samples n (side_of samples n test left numbers) ≡ traces_of (stored_in samples n k) (those (on test left) numbers)
   side_traces test left =
-      ap (traces_at l.samples.now l.n) (side_same test left)
-      ∙ map_agree (trace_of l) (λ (t : ℕ). get_or (stored_of l) t []) (those (on test left) l.list.now)
-      (λ t i. sym (stored_at l.samples.now l.n l.k t (l.inside.below t (from_those (on test left) l.list.now i).0)))
+      ap (traces_at samples n) (side_same test left)
+      ∙ map_agree (trace_in samples n) (λ (t : ℕ). get_or (stored_in samples n k) t []) (those (on test left) numbers)
+      (λ t i. sym (stored_at samples n k t (below t (from_those (on test left) numbers i).0)))
 
-  pub side_in : (test : Test) (left : Bool) {t : ℕ} → In t (side_of l test left l.list.now) → In t l.list.now
-  side_in test left i = (from_those (λ (u : ℕ). on_side left (sends_left test (trace_of l u))) l.list.now i).0
+pub side_in : (samples : List ℤ) (n : ℕ) (test : Test) (left : Bool) (numbers : List ℕ) {t : ℕ} → In t (side_of samples n test left numbers) → In t numbers
+side_in samples n test left numbers i = (from_those (λ (u : ℕ). on_side left (sends_left test (trace_in samples n u))) numbers i).0
 
 -- the rows of some of the traces
 pub rows_among : (l m : Listed) (place : List ℕ) (columns : List ColumnView) → m.samples.now ≡ l.samples.now → m.n ≡ l.n → ((t : ℕ) → In t m.list.now → In t l.list.now)

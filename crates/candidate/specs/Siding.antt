@@ -2,9 +2,8 @@
 use Rattle.std.specs.Prelude.{ℕ, Bool, not, List, ℤ, if◌then◌else◌}
 use Rattle.integer.specs.Words.{those}
 use Rattle.dstree.specs.Node.{Test, sends_left}
+use Rattle.tables.specs.View.{trace_in}
 use Rattle.tables.specs.Runs.{test_by}
-use Rattle.leaf_figures.specs.Rows.{trace_of}
-use Rattle.leaf_figures.specs.declared.listed.Listed.{Listed}
 use Rattle.candidate.specs.declared.siding.Trial.{Trial}
 
 -- a trial's test, with a threshold
@@ -16,5 +15,5 @@ abbrev pub on_side : Bool → Bool → Bool
 on_side left goes = if left then goes else not goes
 
 -- the numbers on one side
-abbrev pub side_of : Listed → Test → Bool → List ℕ → List ℕ
-side_of l test left numbers = those (λ (t : ℕ). on_side left (sends_left test (trace_of l t))) numbers
+abbrev pub side_of : List ℤ → ℕ → Test → Bool → List ℕ → List ℕ
+side_of samples n test left numbers = those (λ (t : ℕ). on_side left (sends_left test (trace_in samples n t))) numbers

@@ -53,7 +53,7 @@ fn side_spread(
         × Rises rows.traces.n 1 (ends_of child) }
     ensures value { result ≡ spread (ends_of child)
         (traces_at rows.entry.traces.samples.now rows.entry.traces.n
-        (side_of rows.entry.traces (trial_test c threshold) left rows.entry.traces.list.now)) }
+        (side_of rows.entry.traces.samples.now rows.entry.traces.n (trial_test c threshold) left rows.entry.traces.list.now)) }
     ensures size { result ≤ spread_most }
     ensures room { length side.new ≡ most_traces }
 {

@@ -44,7 +44,8 @@ pub fn goes_left_at(
 // The list's traces on one side of a test, in the list's order. The answer is how many there are; places behind them are not looked at.
 pub fn list_side(rows: Rows, c: Trial, threshold: i64, left: bool, side: &mut [u16; 4096]) -> usize
     requires { Inside rows.traces.n c.on.first c.on.last × (length side.old ≡ most_traces) }
-    ensures side_after { take result side.new ≡ side_of rows.entry.traces (trial_test c threshold) left rows.entry.traces.list.now }
+    ensures side_after { take result side.new
+        ≡ side_of rows.entry.traces.samples.now rows.entry.traces.n (trial_test c threshold) left rows.entry.traces.list.now }
     ensures few { result ≤ most_traces }
     ensures size { length side.new ≡ most_traces }
 {

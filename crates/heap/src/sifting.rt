@@ -1,6 +1,6 @@
 // The ways of a hole, up and down. While a key is on its way the places are no heap, so these take the places and not the heap.
 ghost use Rattle.std.specs.Prelude.{◌<◌, ◌≤◌, length, get_or};
-ghost use Rattle.heap.specs.Heap.{IsHeap, Lesser, Pushed, Sunk, Popped};
+ghost use Rattle.heap.specs.Heap.{IsHeap, Least, Lesser, Pushed, Sunk, Popped};
 
 // Puts a key into a heap of n keys, which then has n + 1.
 pub fn rise(s: &mut [u64], n: usize, key: u64)
@@ -53,6 +53,14 @@ pub fn sink(s: &mut [u64], n: usize, key: u64)
         left = 2 * c + 1;
     }
     s[at] = key;
+}
+
+// The least of the n keys of a heap. It stays in.
+pub fn least(s: &[u64], n: usize) -> u64
+    requires { (0 < n) × (n ≤ length s.now) × (IsHeap n s.now) }
+    ensures { Least n s.now result }
+{
+    s[0]
 }
 
 // Takes the least of n keys out of a heap, which then has n - 1.

@@ -30,19 +30,31 @@ fn with_square(squares: u64, word: Word) -> u64
     squares + segment::figures::square(i64::from(sample_of(word)))
 }
 
+// The sum and the sum of squares of the first i samples, at place i, from none of them to all. Sums that start at 1 do not meet this.
+pub fn prefix_sums(trace: &[Word], sums: &mut [i64; 257], squares: &mut [u64; 257])
+    requires { length trace.now ≤ most_samples }
+    ensures { Prefixes (samples_of trace.now) sums.new squares.new }
+{
+    sums[0] = 0;
+    squares[0] = 0;
+    for (i, word) in trace.iter().enumerate() {
+        sums[i + 1] = with_sample(sums[i], *word);
+        squares[i + 1] = with_square(squares[i], *word);
+    }
+}
+
 // A trace with its sums over its first samples: what is worked out once for a query or a new trace, and asked at every node.
 #[derive(Drop)]
 pub struct Summed<'a> {
     pub trace: &'a [Word],
-    sums: &'a [i64; 257],
-    squares: &'a [u64; 257],
+    pub sums: &'a [i64; 257],
+    pub squares: &'a [u64; 257],
     pub ghost summed: { Prefixes (samples_of trace.now) sums.now squares.now },
 }
 
 impl<'a> Summed<'a> {
-    // At place i of each array, the first i samples', from none of them to all. The samples are looked at once, here. Sums that start at 1
-    // do not meet this. The arrays are lent, and their contents do not matter. By value they would be copied, and a match in few traces would
-    // take half as long again.
+    // The samples are looked at once, here. The arrays are lent, and their contents do not matter. By value they would be copied, and a match
+    // in few traces would take half as long again.
     pub fn of(
         trace: &'a [Word],
         sums: &'a mut [i64; 257],
@@ -51,12 +63,7 @@ impl<'a> Summed<'a> {
         requires { length trace.now ≤ most_samples }
         ensures { result.trace.now ≡ trace.now }
     {
-        sums[0] = 0;
-        squares[0] = 0;
-        for (i, word) in trace.iter().enumerate() {
-            sums[i + 1] = with_sample(sums[i], *word);
-            squares[i + 1] = with_square(squares[i], *word);
-        }
+        prefix_sums(trace, sums, squares);
         Summed {
             trace,
             sums,

@@ -32,12 +32,12 @@ module _ (l : Listed) (c : Trial) (threshold : ℤ) (fits : SFits w64 threshold)
   side_by = those (λ (t : ℕ). on_side left (sends_left (trial_test c threshold) (get_or (stored_of l) t []))) l.list.now
 
   -- a side's spread is that of a child
-  child_is : (all child : List ℕ) → child ≡ all → (r : ℕ) → r ≡ spread child (traces_at l.samples.now l.n (side_of l (trial_test c (read w64 threshold)) left l.list.now))
+  child_is : (all child : List ℕ) → child ≡ all → (r : ℕ) → r ≡ spread child (traces_at l.samples.now l.n (side_of l.samples.now l.n (trial_test c (read w64 threshold)) left l.list.now))
       → r ≡ spread all (traces_of (stored_of l) side_by)
   child_is all child same r e =
       e
-      ∙ (ap₂ (λ (x : List ℕ) (z : ℤ). spread x (traces_at l.samples.now l.n (side_of l (trial_test c z) left l.list.now))) same (to_z-of_z fits)
-      ∙ ap (spread all) (side_traces l (trial_test c threshold) left))
+      ∙ (ap₂ (λ (x : List ℕ) (z : ℤ). spread x (traces_at l.samples.now l.n (side_of l.samples.now l.n (trial_test c z) left l.list.now))) same (to_z-of_z fits)
+      ∙ ap (spread all) (side_traces l.samples.now l.n l.k l.list.now l.inside.below (trial_test c threshold) left))
 
 pub child_ends-child-requires : goal.child_ends-child-requires
 child_ends-child-requires c =

@@ -22,7 +22,7 @@ invariant_of-traces c =
     let l = c.args.rows.traces in
     let g = c.list_side-many in
     let among : (t : ℕ) → In t (take g.result g.new.side) → In t l.list.now =
-    λ t i. side_in l (trial_test c.args.c (read w64 c.args.threshold)) c.args.left (subst (In t) g.ensures.side_after i) in record {
+    λ t i. side_in l.samples.now l.n (trial_test c.args.c (read w64 c.args.threshold)) c.args.left l.list.now (subst (In t) g.ensures.side_after i) in record {
       inside = record {
         narrow = l.inside.narrow;
         few = omega (arith, length-take g.result g.new.side, g.ensures.few);
@@ -36,7 +36,7 @@ invariant_of-some c =
     let l = c.args.rows.traces in
     let g = c.list_side-many in record {
       rows = rows_among l _ c.args.rows.place.now c.args.rows.columns.now refl refl
-          (λ t i. side_in l (trial_test c.args.c (read w64 c.args.threshold)) c.args.left (subst (In t) g.ensures.side_after i)) c.args.rows.rows;
+          (λ t i. side_in l.samples.now l.n (trial_test c.args.c (read w64 c.args.threshold)) c.args.left l.list.now (subst (In t) g.ensures.side_after i)) c.args.rows.rows;
     }
 
 pub returns : goal.returns
@@ -46,7 +46,7 @@ returns c =
     let g = c.spread_along.ensures in
     record {
       value = g.value ∙ (ap (λ (m : List ℕ). spread (ends_of a.child) (traces_at l.samples.now l.n m)) c.list_side-many.ensures.side_after
-          ∙ ap (λ (z : ℤ). spread (ends_of a.child) (traces_at l.samples.now l.n (side_of l (trial_test a.c z) a.left l.list.now))) (to_z-of_z c.ranges.threshold));
+          ∙ ap (λ (z : ℤ). spread (ends_of a.child) (traces_at l.samples.now l.n (side_of l.samples.now l.n (trial_test a.c z) a.left l.list.now))) (to_z-of_z c.ranges.threshold));
       size = g.size;
       room = c.list_side-many.ensures.size;
     }

@@ -44,15 +44,15 @@ loop-number-preserved c =
     let on : beq a.left c.goes_left_at-goes.result ≡ b = on_same a.left c.goes_left_at-goes.result ∙ ap (on_side a.left) goes in
     let e : l.most + c.from-most.result ≡ (if b then suc l.most else l.most) =
     ap (λ (m : ℕ). l.most + m) (c.from-most.ensures ∙ ap bool_byte on) ∙ counted_is b l.most in
-    let after = side_of traces test a.left (drop (l.number-index + 1) list) in
+    let after = side_of traces.samples.now traces.n test a.left (drop (l.number-index + 1) list) in
     let here : drop l.number-index list ≡ x ∷ drop (l.number-index + 1) list =
     drop-cons list l.number-index 0 c.loop-number-test.true ∙ ap (λ (m : ℕ). x ∷ drop m list) (sym (add-one l.number-index)) in
-    let more = side_more traces test a.left x (drop (l.number-index + 1) list) in (
+    let more = side_more traces.samples.now traces.n test a.left x (drop (l.number-index + 1) list) in (
       omega (arith, e, counted_most b l.most, l.invariant.0),
       length-set l.side l.most x ∙ l.invariant.1,
       ap (λ (m : ℕ). take m (set l.side l.most x) ++ after) e
           ∙ (listed_more l.side l.most x b after (omega (arith, l.invariant.0, l.invariant.1, c.loop-number-test.true, traces.inside.few))
-          ∙ (ap (λ (m : List ℕ). take l.most l.side ++ m) (sym (ap (side_of traces test a.left) here ∙ more)) ∙ l.invariant.2)),
+          ∙ (ap (λ (m : List ℕ). take l.most l.side ++ m) (sym (ap (side_of traces.samples.now traces.n test a.left) here ∙ more)) ∙ l.invariant.2)),
     )
 
 pub returns : goal.returns
@@ -60,12 +60,12 @@ returns c =
     let a = c.args in
     let l = c.loop-number in
     let list = a.rows.traces.list.now in
-    let side = side_of a.rows.traces (trial_test a.c (read w64 a.threshold)) a.left in
+    let side = side_of a.rows.traces.samples.now a.rows.traces.n (trial_test a.c (read w64 a.threshold)) a.left in
     let none : side (drop l.number-index list) ≡ [] = ap side (drop_of_length-le list {i = l.number-index} c.loop-number-test.false)
-    ∙ side_none a.rows.traces (trial_test a.c (read w64 a.threshold)) a.left in
+    ∙ side_none a.rows.traces.samples.now a.rows.traces.n (trial_test a.c (read w64 a.threshold)) a.left in
     let all : take l.most l.side ≡ side list =
     sym (append-nil (take l.most l.side)) ∙ (ap (λ (m : List ℕ). take l.most l.side ++ m) (sym none) ∙ l.invariant.2) in record {
-      side_after = subst (λ (z : ℤ). take l.most l.side ≡ side_of a.rows.traces (trial_test a.c z) a.left list) (to_z-of_z c.ranges.threshold) all;
+      side_after = subst (λ (z : ℤ). take l.most l.side ≡ side_of a.rows.traces.samples.now a.rows.traces.n (trial_test a.c z) a.left list) (to_z-of_z c.ranges.threshold) all;
       few = omega (arith, l.invariant.0, l.auto.number-index-end, a.rows.traces.inside.few);
       size = l.invariant.1;
     }

@@ -11,5 +11,5 @@ abbrev pub invariant-loop-number : goal.invariant-loop-number
 invariant-loop-number l =
     (l.most ≤ l.number-index)
     × (length l.side ≡ 4096)
-    × (take l.most l.side ++ side_of l.rows.traces (trial_test l.c l.threshold) l.left (drop l.number-index l.list)
-    ≡ side_of l.rows.traces (trial_test l.c l.threshold) l.left l.list)
+    × (take l.most l.side ++ side_of l.rows.traces.samples.now l.rows.traces.n (trial_test l.c l.threshold) l.left (drop l.number-index l.list)
+    ≡ side_of l.rows.traces.samples.now l.rows.traces.n (trial_test l.c l.threshold) l.left l.list)

@@ -37,7 +37,7 @@ try_segment-found-requires c =
       record {
         room = p.0;
         rise = p.1;
-        spread_is = c.spread_along.ensures.value ∙ ap (spread (ends_of e)) (list_traces l);
+        spread_is = c.spread_along.ensures.value ∙ ap (spread (ends_of e)) (list_traces l.samples.now l.n l.k l.list.now l.inside.below);
         size = c.spread_along.ensures.size;
       },
       t.inside,

@@ -31,7 +31,7 @@ use Rattle.split_choice.proofs.choice.try_both.Goals as goal
 -- what is known once the figures are taken
 module _ (x : Leaf) (on : Run) (cut column : OptionOf ℕ) (f : SideRange) (taken : segment_by on.last f ≡ segment_of (all_traces x.rows.traces) (run on.first on.last)) where
   whole : segment_by on.last f ≡ segment_of (leaf_traces x) (run on.first on.last)
-  whole = taken ∙ ap (λ (l : List Trace). segment_of l (run on.first on.last)) (list_traces x.rows.traces)
+  whole = taken ∙ ap (λ (l : List Trace). segment_of l (run on.first on.last)) (let r = x.rows.traces in list_traces r.samples.now r.n r.k r.list.now r.inside.below)
 
   by_sum : SmallFigures f → TrialExtremes (leaf_traces x) (trial_by on cut column false) (read w64 f.least_sum) (read w64 f.greatest_sum)
   by_sum m =

@@ -9,7 +9,7 @@ pub fn reached(edges: &[u64], figure: u64) -> u64
     ensures { result ≡ edges_reached edges.now figure }
 {
     let mut many: u64 = 0;
-    // `filter` and `count` take 1.28 of a report's instructions, and this is done twice a node
+    // this is done twice a node: `filter` and `count` take 1.28 of the instructions of a report of 16 bands at n = 1
     for edge in edges {
         many += u64::from(*edge <= figure);
     }

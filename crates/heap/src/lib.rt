@@ -2,7 +2,7 @@
 // stores one key.
 #![tactic(auto)]
 
-pub mod sifting; // the ways of a hole, up and down, over places that are lent with the number of keys
+pub mod sifting; // the ways of a hole, up and down, and the least key, over places that are lent with the number of keys
 
 ghost use Rattle.std.specs.Prelude.{◌≡◌, ◌+◌, ◌<◌, ◌≤◌, length, get_or, MatchOption};
 ghost use Rattle.heap.specs.Heap.{IsHeap, Least, Pushed, Sunk, Popped};

@@ -1,4 +1,5 @@
-// The ways of a hole, up and down. While a key is on its way the places are no heap, so these take the places and not the heap.
+// The ways of a hole, up and down. While a key is on its way the places are no heap, so these take the places and not the heap. Places that
+// are lent to be read alone can't be a `Heap`: their least key is told here too.
 ghost use Rattle.std.specs.Prelude.{◌<◌, ◌≤◌, length, get_or};
 ghost use Rattle.heap.specs.Heap.{IsHeap, Least, Lesser, Pushed, Sunk, Popped};
 

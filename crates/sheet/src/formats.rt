@@ -5,7 +5,7 @@ ghost use Rattle.dstree.specs.Sheet.{sample_cells, cell_blocks_needed};
 ghost use Rattle.sheet.specs.Formats.{format_by, kind_by};
 
 // Whether a sample takes two bytes, or four, as on a wide sheet.
-#[derive(Clone, Copy)]
+#[derive(Clone, Copy, Debug, PartialEq, Eq)]
 pub enum Format {
     Narrow,
     Wide,
@@ -45,7 +45,7 @@ impl Format {
 }
 
 // What a block carries. Block 0 is the head.
-#[derive(Clone, Copy)]
+#[derive(Clone, Copy, Debug, PartialEq, Eq)]
 pub enum BlockKind {
     Head(Format),
     Samples(Format),

@@ -18,9 +18,10 @@ use Rattle.tables.specs.View.{trace_in}
 use Rattle.tables.specs.Walk.{stored_in}
 use Rattle.tables.proofs.Listed.{stored_at}
 use Rattle.leaf_figures.specs.Listed.{traces_at}
-use Rattle.leaf_figures.specs.Rows.{HasRows}
+use Rattle.leaf_figures.specs.Rows.{HasRows, HasViewedRows}
 use Rattle.leaf_figures.specs.declared.listed.Listed.{Listed}
 use Rattle.leaf_figures.specs.declared.table.ColumnView.{ColumnView}
+use Rattle.leaf_figures.specs.declared.table.Table.{Table}
 use Rattle.candidate.specs.Siding.{on_side, side_of}
 
 -- one number more, if it is on the side
@@ -79,10 +80,20 @@ module _ (samples : List ℤ) (n k : ℕ) (numbers : List ℕ) (below : (t : ℕ
 pub side_in : (samples : List ℤ) (n : ℕ) (test : Test) (left : Bool) (numbers : List ℕ) {t : ℕ} → In t (side_of samples n test left numbers) → In t numbers
 side_in samples n test left numbers i = (from_those (λ (u : ℕ). on_side left (sends_left test (trace_in samples n u))) numbers i).0
 
--- the rows of some of the traces
-pub rows_among : (l m : Listed) (place : List ℕ) (columns : List ColumnView) → m.samples.now ≡ l.samples.now → m.n ≡ l.n → ((t : ℕ) → In t m.list.now → In t l.list.now)
-    → HasRows l place columns → HasRows m place columns
-rows_among l m place columns samples n among h = record {
+-- the rows of some of the traces: in a table, and in views
+pub rows_among : (l m : Listed) (table : Table) → m.samples.now ≡ l.samples.now → m.n ≡ l.n → ((t : ℕ) → In t m.list.now → In t l.list.now) → HasRows l table → HasRows m table
+rows_among l m table samples n among h = record {
+  places = h.places;
+  rows = λ f on some.
+      let r = h.rows f on some in record {
+        placed = λ t i. r.placed t (among t i);
+        kept = λ t i. rw (samples, n) (r.kept t (among t i));
+      };
+}
+
+pub viewed_rows_among : (l m : Listed) (place : List ℕ) (columns : List ColumnView) → m.samples.now ≡ l.samples.now → m.n ≡ l.n → ((t : ℕ) → In t m.list.now → In t l.list.now)
+    → HasViewedRows l place columns → HasViewedRows m place columns
+viewed_rows_among l m place columns samples n among h = record {
   rows = λ f c on at has.
       let r = h.rows f c on at has in record {
         placed = λ t i. r.placed t (among t i);

@@ -11,7 +11,7 @@ use lib.Seq.{get_or-set_same, get_or-set_other}
 use borrow.Author.Count.{below_more}
 use Rattle.integer.proofs.Lists.{same_or_not}
 use Rattle.segment.specs.declared.figures.Figures.{Figures}
-use Rattle.leaf_figures.specs.Rows.{no_figures_yet, no_column, FiguresOf, FiguresAt, HasRows, PlacesInList, FirstRows, FullColumn, Columns, trace_of, viewed}
+use Rattle.leaf_figures.specs.Rows.{no_figures_yet, no_column, FiguresOf, FiguresAt, RowsOn, HasRows, HasViewedRows, PlacesInList, FirstRows, FullColumn, Columns, trace_of, viewed}
 use Rattle.leaf_figures.specs.declared.listed.Listed.{Listed}
 use Rattle.leaf_figures.specs.declared.table.Run.{Run}
 use Rattle.leaf_figures.specs.declared.table.Column.{Column}
@@ -61,19 +61,38 @@ filled_columns l columns few many = by (dec_le (length l.list.now) 65)
     by (yes h) = few h
     by (no f) = subst (Columns l) (sym (many (omega (arith, f)))) (no_columns l)
 
--- columns without runs serve any list
-pub no_rows : (l : Listed) (place : List ℕ) (columns : List ColumnView) → ((f : ℕ) (c : ColumnView) → slice_get columns f ≡ Some c → c.run ≡ None) → HasRows l place columns
-no_rows l place columns none = record { rows = λ f c on at has. absurd (none-some on (sym (none f c at) ∙ has)) }
+-- a table in which no column has a run serves any list
+pub no_rows : (l : Listed) (place : List ℕ) → HasRows l (record { place = place; columns = replicate 48 no_column })
+no_rows l place = record {
+  places = length-replicate {A = Column} 48 no_column;
+  rows = λ f on some. absurd (none-some on (sym (ap (λ (x : Column). x.run) (no_run 48 f)) ∙ some));
+}
 
--- columns in the list's order are rows by its numbers
-pub rows_of : (l : Listed) (table : Table) (views : List ColumnView) → PlacesInList l.list.now table.place → Columns l table.columns → map viewed views ≡ table.columns
-    → HasRows l table.place views
-rows_of l table views p c lent = record {
+-- and so do lent columns of which none has a run
+pub no_viewed_rows : (l : Listed) (place : List ℕ) (columns : List ColumnView) → ((f : ℕ) (c : ColumnView) → slice_get columns f ≡ Some c → c.run ≡ None)
+    → HasViewedRows l place columns
+no_viewed_rows l place columns none = record { rows = λ f c on at has. absurd (none-some on (sym (none f c at) ∙ has)) }
+
+-- columns in the list's order are rows by its numbers: a table's, and of any views of its columns
+pub rows_of : (l : Listed) (table : Table) → PlacesInList l.list.now table.place → Columns l table.columns → HasRows l table
+rows_of l table p c = record {
+  places = c.places;
+  rows = λ f on some. record {
+    placed = λ t i. omega (arith, p.inside t i, p.places);
+    kept = λ t i. subst (λ (u : ℕ). FiguresAt (trace_of l u) on (get_or table.columns f no_column).figures (get_or table.place t 0)) (p.back t i)
+        ((c.column f).rows on some (get_or table.place t 0) (p.row t i));
+  };
+}
+
+-- a table's rows are those of views of its columns
+pub viewed_rows : (l : Listed) (table : Table) (views : List ColumnView) → HasRows l table → map viewed views ≡ table.columns → HasViewedRows l table.place views
+viewed_rows l table views h lent = record {
   rows = λ f v on at has.
       let here : slice_get table.columns f ≡ Some (viewed v) = subst (λ (m : List Column). slice_get m f ≡ Some (viewed v)) lent (slice_get-map viewed views f ∙ ap (option_map viewed) at) in
-      let column = subst (FullColumn l) (get_or_from_slice_get table.columns f (viewed v) no_column here) (c.column f) in record {
-        placed = λ t i. omega (arith, p.inside t i, p.places);
-        kept = λ t i. subst (λ (u : ℕ). FiguresAt (trace_of l u) on v.figures.now (get_or table.place t 0)) (p.back t i)
-            (column.rows on has (get_or table.place t 0) (p.row t i));
-      };
+      let is : get_or table.columns f no_column ≡ viewed v = get_or_from_slice_get table.columns f (viewed v) no_column here in
+      subst (λ (x : Column). RowsOn l table.place on x.figures) is (h.rows f on (ap (λ (x : Column). x.run) is ∙ has));
 }
+
+pub viewed_rows_of : (l : Listed) (table : Table) (views : List ColumnView) → PlacesInList l.list.now table.place → Columns l table.columns → map viewed views ≡ table.columns
+    → HasViewedRows l table.place views
+viewed_rows_of l table views p c = viewed_rows l table views (rows_of l table p c)

@@ -14,6 +14,7 @@ use Rattle.leaf_figures.specs.declared.listed.Listed.{Listed}
 use Rattle.leaf_figures.specs.declared.table.Run.{Run}
 use Rattle.leaf_figures.specs.declared.table.Column.{Column}
 use Rattle.leaf_figures.specs.declared.table.ColumnView.{ColumnView}
+use Rattle.leaf_figures.specs.declared.table.Table.{Table}
 
 -- the halves of a run, the left one rounded down
 abbrev pub left_half : Run → Run
@@ -74,8 +75,14 @@ pub record RowsOn (l : Listed) (place : List ℕ) (on : Run) (figures : List Fig
   pub placed : (t : ℕ) → In t l.list.now → t < length place
   pub kept : (t : ℕ) → In t l.list.now → FiguresAt (trace_of l t) on figures (get_or place t 0)
 
--- each column that has a run has the figures of the traces on it. Trace t is in row `place` t of a column
-pub record HasRows (l : Listed) (place : List ℕ) (columns : List ColumnView) : Type 0 where
+-- 48 runs may have a column of 65 figures each. Trace t is in row `place` t of a column
+pub record HasRows (l : Listed) (table : Table) : Type 0 where
+  pub places : length table.columns ≡ most_runs
+  pub rows : (f : ℕ) (on : Run) → (get_or table.columns f no_column).run ≡ Some on
+      → RowsOn l table.place on (get_or table.columns f no_column).figures
+
+-- of lent columns, in any number: each that has a run has the figures of the traces on it. Trace t is in row `place` t of a column
+pub record HasViewedRows (l : Listed) (place : List ℕ) (columns : List ColumnView) : Type 0 where
   pub rows : (f : ℕ) (c : ColumnView) (on : Run) → slice_get columns f ≡ Some c → c.run ≡ Some on → RowsOn l place on c.figures.now
 
 -- ---- while the table is made

@@ -3,10 +3,10 @@
 ghost use Rattle.std.specs.Prelude.{◌≡◌, Some, IfSome, unwrap_or, slice_get};
 ghost use Rattle.tables.specs.View.{trace_in};
 ghost use Rattle.tables.specs.Runs.{RunOfTrace};
-ghost use Rattle.leaf_figures.specs.Rows.{HasRows, RowsOn, RowOf, FiguresOf};
+ghost use Rattle.leaf_figures.specs.Rows.{HasRows, HasViewedRows, RowsOn, RowOf, FiguresOf};
 
 use crate::listed::Listed;
-use crate::table::{ColumnView, Run};
+use crate::table::{ColumnView, Run, Table};
 use segment::Word;
 use segment::figures::Figures;
 use tables::runs::{figures_on, trace_at};
@@ -46,14 +46,22 @@ pub fn figures_at(
     }
 }
 
-// Some traces, and what is kept of their figures: columns, in each of which trace t has the row `place[t]`. They may have been made for more
-// traces than these.
+// Some traces, and the table of what is kept of their figures. It may have been made for more traces than these.
+#[derive(Clone, Copy)]
+pub struct TableRows<'a> {
+    pub traces: Listed<'a>,
+    pub table: &'a Table,
+    pub ghost rows: { HasRows traces table.now },
+}
+
+// Some traces, and what is kept of their figures in lent columns, in each of which trace t has the row `place[t]`. They may have been made
+// for more traces than these.
 #[derive(Clone, Copy)]
 pub struct Rows<'a> {
     pub traces: Listed<'a>,
     pub place: &'a [u16],
     pub columns: &'a [ColumnView<'a>],
-    pub ghost rows: { HasRows traces place.now columns.now },
+    pub ghost rows: { HasViewedRows traces place.now columns.now },
 }
 
 impl<'a> Rows<'a> {

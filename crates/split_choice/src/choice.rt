@@ -24,7 +24,7 @@ use leaf_figures::ends::Ends;
 use leaf_figures::filling::fill_rows;
 use leaf_figures::listed::Listed;
 use leaf_figures::lists::{list_leaf, place_list};
-use leaf_figures::rows::Rows;
+use leaf_figures::rows::{Rows, TableRows};
 use leaf_figures::sameness::all_same;
 use leaf_figures::spread::spread_along;
 use leaf_figures::table::{NO_COLUMN, NO_VIEW, Run, Table, view_columns};
@@ -193,11 +193,15 @@ fn best_kept(traces: Listed, e: Ends) -> Option<Choice>
     };
     place_list(traces.list, &mut table.place);
     fill_rows(traces, e, &mut table.columns);
+    let kept = TableRows {
+        traces,
+        table: &table,
+    };
     let mut columns = [NO_VIEW; 48];
-    view_columns(&table.columns, &mut columns);
+    view_columns(&kept.table.columns, &mut columns);
     let rows = Rows {
         traces,
-        place: &table.place,
+        place: &kept.table.place,
         columns: &columns,
     };
     best_along(rows, e)

@@ -14,7 +14,7 @@ use Rattle.dstree.specs.Adding.{spread}
 use Rattle.leaf_figures.specs.Ends.{ends_of}
 use Rattle.leaf_figures.specs.Listed.{traces_at}
 use Rattle.candidate.specs.Siding.{trial_test, side_of}
-use Rattle.candidate.proofs.Sided.{side_in, rows_among}
+use Rattle.candidate.proofs.Sided.{side_in, viewed_rows_among}
 use Rattle.candidate.proofs.gains.side_spread.Goals as goal
 
 pub invariant_of-traces : goal.invariant_of-traces
@@ -35,7 +35,7 @@ pub invariant_of-some : goal.invariant_of-some
 invariant_of-some c =
     let l = c.args.rows.traces in
     let g = c.list_side-many in record {
-      rows = rows_among l _ c.args.rows.place.now c.args.rows.columns.now refl refl
+      rows = viewed_rows_among l _ c.args.rows.place.now c.args.rows.columns.now refl refl
           (λ t i. side_in l.samples.now l.n (trial_test c.args.c (read w64 c.args.threshold)) c.args.left l.list.now (subst (In t) g.ensures.side_after i)) c.args.rows.rows;
     }
 

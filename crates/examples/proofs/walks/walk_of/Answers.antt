@@ -10,7 +10,7 @@ use Rattle.integer.proofs.Lists.{In}
 use Rattle.tables.specs.Walk.{stored_in}
 use Rattle.tables.specs.Runs.{test_by}
 use Rattle.tables.proofs.Listed.{numbers_below, run_in}
-use Rattle.leaf_figures.proofs.Filled.{no_rows}
+use Rattle.leaf_figures.proofs.Filled.{no_viewed_rows}
 use Rattle.std.proofs.lemmas.Option.{none-some}
 use Rattle.candidate.specs.Parting.{look_of}
 use Rattle.examples.proofs.walks.walk_of.Goals as goal
@@ -34,7 +34,7 @@ invariant_of-traces c =
     }
 
 pub invariant_of-rows : goal.invariant_of-rows
-invariant_of-rows c = record { rows = no_rows _ _ _ (λ f v at. absurd (none-some v at)) }
+invariant_of-rows c = record { rows = no_viewed_rows _ _ _ (λ f v at. absurd (none-some v at)) }
 
 pub look_along-requires : goal.look_along-requires
 look_along-requires c = record { from_1 = omega arith; rises = c.requires.wide; to_n = omega arith }

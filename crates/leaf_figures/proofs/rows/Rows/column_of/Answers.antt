@@ -4,14 +4,14 @@ use Rattle.std.specs.Borrow.{Bor}
 use mathlib.Core.Path.{◌≡◌}
 use mathlib.Core.List.{List}
 use Prim.Native.Nat.{ℕ}
-use Rattle.leaf_figures.specs.Rows.{HasRows, RowsOn}
+use Rattle.leaf_figures.specs.Rows.{HasViewedRows, RowsOn}
 use Rattle.leaf_figures.specs.declared.listed.Listed.{Listed}
 use Rattle.leaf_figures.specs.declared.table.Run.{Run}
 use Rattle.leaf_figures.specs.declared.table.ColumnView.{ColumnView}
 use Rattle.leaf_figures.proofs.rows.Rows.column_of.Goals as goal
 
 -- what is at the guess and has the run has the figures
-rows_in : (l : Listed) (place : List ℕ) (columns : List ColumnView) (f : ℕ) (on : Run) → HasRows l place columns → (column : Option (Bor ColumnView))
+rows_in : (l : Listed) (place : List ℕ) (columns : List ColumnView) (f : ℕ) (on : Run) → HasViewedRows l place columns → (column : Option (Bor ColumnView))
     → IfSome column (λ c. slice_get columns f ≡ Some c.now) → IfSome column (λ c. c.now.run ≡ Some on) → IfSome column (λ c. RowsOn l place on c.now.figures.now)
 rows_in l place columns f on h None is has = tt
 rows_in l place columns f on h (Some c) is has = h.rows f c.now on is has

@@ -80,7 +80,7 @@ module _ (samples : List ℤ) (n k : ℕ) (numbers : List ℕ) (below : (t : ℕ
 pub side_in : (samples : List ℤ) (n : ℕ) (test : Test) (left : Bool) (numbers : List ℕ) {t : ℕ} → In t (side_of samples n test left numbers) → In t numbers
 side_in samples n test left numbers i = (from_those (λ (u : ℕ). on_side left (sends_left test (trace_in samples n u))) numbers i).0
 
--- the rows of some of the traces: in a table, and in views
+-- a table's rows serve some of its traces
 pub rows_among : (l m : Listed) (table : Table) → m.samples.now ≡ l.samples.now → m.n ≡ l.n → ((t : ℕ) → In t m.list.now → In t l.list.now) → HasRows l table → HasRows m table
 rows_among l m table samples n among h = record {
   places = h.places;
@@ -91,6 +91,7 @@ rows_among l m table samples n among h = record {
       };
 }
 
+-- the rows in lent columns serve some of their traces
 pub viewed_rows_among : (l m : Listed) (place : List ℕ) (columns : List ColumnView) → m.samples.now ≡ l.samples.now → m.n ≡ l.n → ((t : ℕ) → In t m.list.now → In t l.list.now)
     → HasViewedRows l place columns → HasViewedRows m place columns
 viewed_rows_among l m place columns samples n among h = record {

@@ -68,12 +68,12 @@ no_rows l place = record {
   rows = λ f on some. absurd (none-some on (sym (ap (λ (x : Column). x.run) (no_run 48 f)) ∙ some));
 }
 
--- and so do lent columns of which none has a run
+-- lent columns of which none has a run serve any list
 pub no_viewed_rows : (l : Listed) (place : List ℕ) (columns : List ColumnView) → ((f : ℕ) (c : ColumnView) → slice_get columns f ≡ Some c → c.run ≡ None)
     → HasViewedRows l place columns
 no_viewed_rows l place columns none = record { rows = λ f c on at has. absurd (none-some on (sym (none f c at) ∙ has)) }
 
--- columns in the list's order are rows by its numbers: a table's, and of any views of its columns
+-- a table's columns in the list's order are rows by its numbers
 pub rows_of : (l : Listed) (table : Table) → PlacesInList l.list.now table.place → Columns l table.columns → HasRows l table
 rows_of l table p c = record {
   places = c.places;
@@ -84,7 +84,7 @@ rows_of l table p c = record {
   };
 }
 
--- a table's rows are those of views of its columns
+-- a table's rows stand in the views of its columns too
 pub viewed_rows : (l : Listed) (table : Table) (views : List ColumnView) → HasRows l table → map viewed views ≡ table.columns → HasViewedRows l table.place views
 viewed_rows l table views h lent = record {
   rows = λ f v on at has.
@@ -93,6 +93,7 @@ viewed_rows l table views h lent = record {
       subst (λ (x : Column). RowsOn l table.place on x.figures) is (h.rows f on (ap (λ (x : Column). x.run) is ∙ has));
 }
 
+-- the views of columns in the list's order have rows by its numbers
 pub viewed_rows_of : (l : Listed) (table : Table) (views : List ColumnView) → PlacesInList l.list.now table.place → Columns l table.columns → map viewed views ≡ table.columns
     → HasViewedRows l table.place views
 viewed_rows_of l table views p c = viewed_rows l table views (rows_of l table p c)

@@ -81,7 +81,7 @@ pub record HasRows (l : Listed) (table : Table) : Type 0 where
   pub rows : (f : ℕ) (on : Run) → (get_or table.columns f no_column).run ≡ Some on
       → RowsOn l table.place on (get_or table.columns f no_column).figures
 
--- of lent columns, in any number: each that has a run has the figures of the traces on it. Trace t is in row `place` t of a column
+-- lent columns, in any number: each that has a run has the figures of the traces on it. Trace t is in row `place` t of a column
 pub record HasViewedRows (l : Listed) (place : List ℕ) (columns : List ColumnView) : Type 0 where
   pub rows : (f : ℕ) (c : ColumnView) (on : Run) → slice_get columns f ≡ Some c → c.run ≡ Some on → RowsOn l place on c.figures.now
 
